@@ -1,5 +1,5 @@
 -- How two signals are graded against each other. Assumes nothing.
-use mathlib.Core.Bool.{Bool, true, false}
+use mathlib.Core.Bool.{Bool, true, false, cond}
 use mathlib.Core.List.{List, [], _∷_}
 use Prim.Native.Nat.{ℕ, zero, suc, _^_}
 use lib.Dec.{eqb}
@@ -15,7 +15,7 @@ use Rattle.netlist.specs.Lines.{line-signals, outs}
 -- the first number of which f holds, of the m from p on
 unfoldable pub first-from : (ℕ → Bool) → ℕ → ℕ → Option ℕ
 first-from f p zero = None
-first-from f p (suc m) = elim (f p) [ true ↦ Some p | false ↦ first-from f (suc p) m ]
+first-from f p (suc m) = cond (f p) (Some p) (first-from f (suc p) m)
 
 -- the first pattern, of those below m, on which s has the value v
 abbrev pub first-below : ℕ → Signal → ℕ → Option ℕ
@@ -47,6 +47,9 @@ zipped f [] ys = []
 zipped f (x ∷ xs) [] = []
 zipped f (x ∷ xs) (y ∷ ys) = f x y ∷ zipped f xs ys
 
--- the findings of two netlists: one for each pair of OUT lines, in order
+-- the findings of two netlists, one for each pair of OUT lines, in order: over the patterns below m, and over all
+abbrev pub findings-below : Ops → ℕ → ℕ → List Line → List Line → List Finding
+findings-below o n m ls ms = zipped (finding-below o m) (outs ls (line-signals o n ls)) (outs ms (line-signals o n ms))
+
 abbrev pub findings : Ops → ℕ → List Line → List Line → List Finding
-findings o n ls ms = zipped (finding o n) (outs ls (line-signals o n ls)) (outs ms (line-signals o n ms))
+findings o n ls ms = findings-below o n (2 ^ n) ls ms

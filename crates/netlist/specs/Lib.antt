@@ -3,4 +3,10 @@ pub mod Patterns
 pub mod Signals
 pub mod Parts
 pub mod Lines
+pub mod Faults
+pub mod FaultNumbers
+pub mod Evaluations
 pub mod Findings
+pub mod Orders
+pub mod Comparisons
+pub mod Cases

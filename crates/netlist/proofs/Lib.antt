@@ -1,0 +1,11 @@
+pub mod FirstFaults
+pub mod LineSignals
+pub mod Filled
+pub mod OutLines
+pub mod Searches
+pub mod Grading
+pub mod BeforeOrders
+pub mod Zips
+pub mod PairGrades
+pub mod OutValues
+pub mod TwoParts
