@@ -1,0 +1,4 @@
+pub mod Guessing
+pub mod Words
+pub mod Framing
+pub mod Tested

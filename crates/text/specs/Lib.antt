@@ -1,0 +1,4 @@
+pub mod Rows
+pub mod Guesses
+pub mod Faults
+pub mod Netlists

@@ -1,0 +1,7 @@
+// What the HEAD row of a netlist says: how many lines follow, and how many inputs and values there are.
+#[derive(Clone, Copy, PartialEq, Eq, Debug)]
+pub struct Header {
+    pub lines: u32,
+    pub inputs: u8,
+    pub values: u8,
+}

@@ -1,0 +1,8 @@
+// Rows of 24 characters and a line feed: the reader of netlists and the writers of report rows.
+mod fault;
+mod field;
+mod header;
+mod row;
+
+pub use fault::RowFault;
+pub use header::Header;
