@@ -2,3 +2,4 @@ pub mod Guessing
 pub mod Words
 pub mod Framing
 pub mod Tested
+pub mod Begun

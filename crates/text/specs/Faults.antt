@@ -2,6 +2,8 @@
 use Prim.Native.Nat.{ℕ, _<_}
 use Rattle.text.specs.declared.fault.RowFault.{RowFault}
 use Rattle.text.specs.declared.fault.RowFault.the-variants.{Incomplete, Word, Field, OutOfTurn, Limits}
+use Rattle.text.specs.declared.fault.ReadFault.{ReadFault}
+use Rattle.text.specs.declared.fault.ReadFault.the-variants.{Head, TooManyLines, AtLine}
 
 abbrev pub row-fault-number : RowFault → ℕ
 row-fault-number Incomplete = 11
@@ -9,6 +11,11 @@ row-fault-number Word = 13
 row-fault-number Field = 12
 row-fault-number OutOfTurn = 14
 row-fault-number Limits = 15
+
+abbrev pub read-fault-number : ReadFault → ℕ
+read-fault-number (Head fault) = row-fault-number fault
+read-fault-number TooManyLines = 17
+read-fault-number (AtLine due fault) = row-fault-number fault
 
 -- the order of the tests
 abbrev pub order : RowFault → ℕ

@@ -2,3 +2,4 @@ pub mod Rows
 pub mod Guesses
 pub mod Faults
 pub mod Netlists
+pub mod Readings

@@ -1,5 +1,9 @@
 ghost use mathlib.Core.Path.{_≡_};
-ghost use Rattle.text.specs.Faults.{row-fault-number};
+ghost use Rattle.std.specs.Results.{Cases as ByOk};
+ghost use Rattle.std.specs.declared.result.Result.the-variants.{Ok, Err};
+ghost use Rattle.text.specs.declared.fault.RowFault.{RowFault as RowFaults};
+ghost use Rattle.text.specs.declared.fault.ReadFault.the-variants.{Head, AtLine};
+ghost use Rattle.text.specs.Faults.{row-fault-number, read-fault-number};
 
 // Why a row is refused. Its tests are made in this order; a HEAD row has no turn, and a line no limits.
 #[derive(Clone, Copy, PartialEq, Eq, Debug)]
@@ -28,5 +32,48 @@ impl RowFault {
             RowFault::OutOfTurn => 14,
             RowFault::Limits => 15,
         }
+    }
+}
+
+// Why a netlist is refused.
+#[derive(Clone, Copy, PartialEq, Eq, Debug)]
+pub enum ReadFault {
+    // Its HEAD row.
+    Head(RowFault),
+    // It has more lines than the list that is lent for them.
+    TooManyLines,
+    // The row of the line that is due.
+    AtLine(u32, RowFault),
+}
+
+impl ReadFault {
+    // The number of the refusal.
+    pub fn number(self) -> u8
+        ensures { λ r. ⌜ r ≡ read-fault-number self ⌝ }
+    {
+        match self {
+            ReadFault::Head(fault) => fault.number(),
+            ReadFault::TooManyLines => 17,
+            ReadFault::AtLine(_, fault) => fault.number(),
+        }
+    }
+}
+
+// A row's fault that comes with no line is the HEAD row's.
+pub impl From<RowFault> for ReadFault as ReadFromRow {
+    ghost converts = { λ e r. r ≡ Head e };
+
+    fn from(fault: RowFault) -> ReadFault {
+        ReadFault::Head(fault)
+    }
+}
+
+// What the row of a line came to, with the line's number at its fault.
+pub fn at_line<T>(r: Result<T, RowFault>, due: u32) -> Result<T, ReadFault>
+    ensures { λ q. ⌜ ByOk q (λ x. r ≡ Ok x) (λ e. (d : RowFaults) × (e ≡ AtLine due d) × (r ≡ Err d)) ⌝ }
+{
+    match r {
+        Ok(x) => Ok(x),
+        Err(fault) => Err(ReadFault::AtLine(due, fault)),
     }
 }

@@ -2,7 +2,10 @@
 mod fault;
 mod field;
 mod header;
+mod reader;
 mod row;
 
+pub use fault::ReadFault;
 pub use fault::RowFault;
 pub use header::Header;
+pub use reader::read_netlist;
