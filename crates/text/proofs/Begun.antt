@@ -14,10 +14,11 @@ use Rattle.std.specs.declared.result.Result.the-variants.{Ok, Err}
 use Rattle.text.specs.declared.header.Header.{Header}
 use Rattle.text.specs.declared.fault.RowFault.{RowFault}
 use Rattle.text.specs.declared.fault.ReadFault.{ReadFault}
-use Rattle.text.specs.declared.fault.ReadFault.the-variants.{AtLine}
+use Rattle.text.specs.declared.fault.ReadFault.the-variants.{Head, AtLine}
 use Rattle.text.specs.Rows.{row-at}
-use Rattle.text.specs.Netlists.{Readable, Allowed, line-row, head-row, HeadRow, lines-text, netlist-text}
+use Rattle.text.specs.Netlists.{Readable, Allowed, line-row, head-row, HeadRow, HeadTest, lines-text, netlist-text}
 use Rattle.text.specs.Readings.{Stands, Begins, Filled, LineRefused, Reading}
+use Rattle.text.specs.Faults.{FirstFailed}
 use Rattle.text.proofs.Tested.{line-framed, head-framed}
 
 -- a row that is whole stands within the bytes
@@ -87,3 +88,7 @@ rest-set before after d l q =
 pub refused-at : (bytes : List ℕ) (from : ℕ) (before after : List Line) (r : Result Header ReadFault) (e : ReadFault) (due : ℕ) (fault : RowFault)
   → r ≡ Err e → e ≡ AtLine due fault → LineRefused bytes from before after due fault → Reading bytes from before after r
 refused-at bytes from before after r e due fault p q h = subst (Reading bytes from before after) (sym (p ∙ ap Err q)) h
+
+pub refused-head : (bytes : List ℕ) (from : ℕ) (before : List Line) (r : Result Header ReadFault) (e : ReadFault) (fault : RowFault)
+  → r ≡ Err e → e ≡ Head fault → FirstFailed (HeadTest (row-at bytes from)) fault → Reading bytes from before before r
+refused-head bytes from before r e fault p q h = subst (Reading bytes from before before) (sym (p ∙ ap Err q)) (record { failed = h; kept = refl })

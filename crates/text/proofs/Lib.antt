@@ -3,3 +3,4 @@ pub mod Words
 pub mod Framing
 pub mod Tested
 pub mod Begun
+pub mod Unique
