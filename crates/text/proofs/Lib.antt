@@ -4,3 +4,5 @@ pub mod Framing
 pub mod Tested
 pub mod Begun
 pub mod Unique
+pub mod Writing
+pub mod Found

@@ -3,3 +3,4 @@ pub mod Guesses
 pub mod Faults
 pub mod Netlists
 pub mod Readings
+pub mod Reports

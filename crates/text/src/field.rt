@@ -42,19 +42,22 @@ pub fn number_bytes(n: u64) -> [u8; 5]
 }
 
 // An operand in six columns.
-pub fn operand_bytes(operand: Option<u64>) -> [u8; 6]
+pub fn operand_bytes(operand: Option<u32>) -> [u8; 6]
     ensures { λ r. ⌜ r ≡ operand-field operand ⌝ }
 {
     match operand {
         None => *b"     -",
-        Some(n) => [
-            shown_digit(n, 100_000),
-            shown_digit(n, 10_000),
-            shown_digit(n, 1_000),
-            shown_digit(n, 100),
-            shown_digit(n, 10),
-            b'0' + (n % 10) as u8,
-        ],
+        Some(n) => {
+            let n = n as u64;
+            [
+                shown_digit(n, 100_000),
+                shown_digit(n, 10_000),
+                shown_digit(n, 1_000),
+                shown_digit(n, 100),
+                shown_digit(n, 10),
+                b'0' + (n % 10) as u8,
+            ]
+        }
     }
 }
 
@@ -94,7 +97,7 @@ pub fn read_operand(s: &[u8]) -> Option<u32>
     ensures { λ r. ⌜ BySome r ((n : ℕ) → n < 1000000 → now (s .entry) ≡ operand-field (Some n) → ⊥) (λ n. (n < 1000000) × (now (s .entry) ≡ operand-field (Some n))) ⌝ }
 {
     let n = guess6(s);
-    if same(s, &operand_bytes(Some(n as u64))) { Some(n) } else { None }
+    if same(s, &operand_bytes(Some(n))) { Some(n) } else { None }
 }
 
 // The kind that a word names.

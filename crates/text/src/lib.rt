@@ -4,8 +4,13 @@ mod field;
 mod header;
 mod reader;
 mod row;
+mod writer;
 
 pub use fault::ReadFault;
 pub use fault::RowFault;
 pub use header::Header;
 pub use reader::read_netlist;
+pub use writer::Summary;
+pub use writer::write_fault;
+pub use writer::write_findings;
+pub use writer::write_summary;
