@@ -4,5 +4,6 @@ pub mod Framing
 pub mod Tested
 pub mod Begun
 pub mod Unique
+pub mod Twofold
 pub mod Writing
 pub mod Found

@@ -3,4 +3,5 @@ pub mod Guesses
 pub mod Faults
 pub mod Netlists
 pub mod Readings
+pub mod Pairs
 pub mod Reports

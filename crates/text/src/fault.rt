@@ -3,7 +3,9 @@ ghost use Rattle.std.specs.Results.{Cases as ByOk};
 ghost use Rattle.std.specs.declared.result.Result.the-variants.{Ok, Err};
 ghost use Rattle.text.specs.declared.fault.RowFault.{RowFault as RowFaults};
 ghost use Rattle.text.specs.declared.fault.ReadFault.the-variants.{Head, AtLine};
-ghost use Rattle.text.specs.Faults.{row-fault-number, read-fault-number};
+ghost use Rattle.text.specs.declared.fault.ReadFault.{ReadFault as ReadFaults};
+ghost use Rattle.text.specs.declared.fault.PairFault.the-variants.{First, Second};
+ghost use Rattle.text.specs.Faults.{row-fault-number, read-fault-number, read-fault-line, pair-fault-number, pair-fault-netlist, pair-fault-line};
 
 // Why a row is refused. Its tests are made in this order; a HEAD row has no turn, and a line no limits.
 #[derive(Clone, Copy, PartialEq, Eq, Debug)]
@@ -57,6 +59,17 @@ impl ReadFault {
             ReadFault::AtLine(_, fault) => fault.number(),
         }
     }
+
+    // The due number of the line whose row is refused.
+    pub fn line(self) -> Option<u32>
+        ensures { λ r. ⌜ r ≡ read-fault-line self ⌝ }
+    {
+        match self {
+            ReadFault::Head(_) => None,
+            ReadFault::TooManyLines => None,
+            ReadFault::AtLine(due, _) => Some(due),
+        }
+    }
 }
 
 // A row's fault that comes with no line is the HEAD row's.
@@ -75,5 +88,74 @@ pub fn at_line<T>(r: Result<T, RowFault>, due: u32) -> Result<T, ReadFault>
     match r {
         Ok(x) => Ok(x),
         Err(fault) => Err(ReadFault::AtLine(due, fault)),
+    }
+}
+
+// Why two netlists in a row are refused.
+#[derive(Clone, Copy, PartialEq, Eq, Debug)]
+pub enum PairFault {
+    First(ReadFault),
+    Second(ReadFault),
+    // Bytes follow the second netlist.
+    Trailing,
+    // The two HEAD rows differ in inputs or values.
+    Heads,
+}
+
+impl PairFault {
+    // The number of the refusal.
+    pub fn number(self) -> u8
+        ensures { λ r. ⌜ r ≡ pair-fault-number self ⌝ }
+    {
+        match self {
+            PairFault::First(fault) => fault.number(),
+            PairFault::Second(fault) => fault.number(),
+            PairFault::Trailing => 16,
+            PairFault::Heads => 41,
+        }
+    }
+
+    // The netlist that is refused, 1 or 2, or 0 for neither.
+    pub fn netlist(self) -> u8
+        ensures { λ r. ⌜ r ≡ pair-fault-netlist self ⌝ }
+    {
+        match self {
+            PairFault::First(_) => 1,
+            PairFault::Second(_) => 2,
+            PairFault::Trailing => 0,
+            PairFault::Heads => 0,
+        }
+    }
+
+    // The due number of the line whose row is refused.
+    pub fn line(self) -> Option<u32>
+        ensures { λ r. ⌜ r ≡ pair-fault-line self ⌝ }
+    {
+        match self {
+            PairFault::First(fault) => fault.line(),
+            PairFault::Second(fault) => fault.line(),
+            PairFault::Trailing => None,
+            PairFault::Heads => None,
+        }
+    }
+}
+
+// What reading the first netlist of two came to.
+pub fn in_first<T>(r: Result<T, ReadFault>) -> Result<T, PairFault>
+    ensures { λ q. ⌜ ByOk q (λ x. r ≡ Ok x) (λ e. (d : ReadFaults) × (e ≡ First d) × (r ≡ Err d)) ⌝ }
+{
+    match r {
+        Ok(x) => Ok(x),
+        Err(fault) => Err(PairFault::First(fault)),
+    }
+}
+
+// What reading the second one came to.
+pub fn in_second<T>(r: Result<T, ReadFault>) -> Result<T, PairFault>
+    ensures { λ q. ⌜ ByOk q (λ x. r ≡ Ok x) (λ e. (d : ReadFaults) × (e ≡ Second d) × (r ≡ Err d)) ⌝ }
+{
+    match r {
+        Ok(x) => Ok(x),
+        Err(fault) => Err(PairFault::Second(fault)),
     }
 }

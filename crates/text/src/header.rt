@@ -5,3 +5,10 @@ pub struct Header {
     pub inputs: u8,
     pub values: u8,
 }
+
+// What the HEAD rows of two netlists in a row say.
+#[derive(Clone, Copy, PartialEq, Eq, Debug)]
+pub struct Pair {
+    pub first: Header,
+    pub second: Header,
+}

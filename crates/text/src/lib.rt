@@ -2,13 +2,17 @@
 mod fault;
 mod field;
 mod header;
+mod pairs;
 mod reader;
 mod row;
 mod writer;
 
+pub use fault::PairFault;
 pub use fault::ReadFault;
 pub use fault::RowFault;
 pub use header::Header;
+pub use header::Pair;
+pub use pairs::read_pair;
 pub use reader::read_netlist;
 pub use writer::Summary;
 pub use writer::write_fault;
