@@ -1,0 +1,9 @@
+pub mod Guessing
+pub mod Words
+pub mod Framing
+pub mod Tested
+pub mod Begun
+pub mod Unique
+pub mod Twofold
+pub mod Writing
+pub mod Found
