@@ -1,7 +1,7 @@
 -- The listed parts of a signal are its parts, and a part of a part is a part.
 use mathlib.Core.Path.{_≡_, refl, sym, ap, _∙_}
 use mathlib.Core.List.{List, map}
-use mathlib.Core.Logic.{⊎-elim}
+use mathlib.Core.Logic.{inl, inr, ⊎-elim}
 use Prim.Native.Nat.{ℕ, suc, _+_, _*_, _-_, _^_, _/_, _%_, _≤_, _<_}
 use native.Mathlib.Nat.{mod-lt, mod-eq-of-lt, mul-assoc, add-assoc, add-mul}
 use native.Mathlib.Omega.{arith}
@@ -12,7 +12,7 @@ use Rattle.std.proofs.shelf.Tests.{cases-lt}
 use Rattle.algebra.specs.Ops.{Ops}
 use Rattle.netlist.specs.Signals.{Signal, Agree, constant}
 use Rattle.netlist.specs.Parts.{below, concat, part, parts}
-use Rattle.diagram.specs.Counts.{Part-of, nth}
+use Rattle.diagram.specs.Counts.{Coded, Opposite, One-part, Part-of, nth}
 use Rattle.diagram.proofs.Alike.{agree-trans, agree-sym, agree-refl}
 use Rattle.diagram.proofs.Anys.{Any, any-at, any-place, any-weaker, any-map, any-from-map, any-concat, any-from-concat, any-below, any-from-below}
 
@@ -120,3 +120,22 @@ part-trans n u t s r q =
           (part-agree n t (part n s (q .0) (q .1)) (r .0) (r .1) (r .2) (r .3) (q .4))))
       (agree-refl n s)
       (part-of-part n s (q .0) (q .1) (r .0) (r .1) (q .2) (q .3) (r .2) (r .3))
+
+-- equal parts of what is one part are one part
+pub one-of-parts : (o : Ops) (n : ℕ) (s t : Signal) (k a : ℕ) → k ≤ n → a < 2 ^ k → One-part o n s t → One-part o n (part n s k a) (part n t k a)
+one-of-parts o n s t k a hk ha (inl e) = inl (part-agree n s t k a hk ha e)
+one-of-parts o n s t k a hk ha (inr r) =
+    inr (record {
+      left-settled = λ p _. r .left-settled (read p) (part-pattern n k a p hk ha);
+      right-settled = λ p _. r .right-settled (read p) (part-pattern n k a p hk ha);
+      left-turned = λ p _. r .left-turned (read p) (part-pattern n k a p hk ha);
+      right-turned = λ p _. r .right-turned (read p) (part-pattern n k a p hk ha) })
+  where
+    read : ℕ → ℕ
+    read p = a * 2 ^ (n - k) + p % 2 ^ (n - k)
+
+-- a part of a signal of codes is one
+pub part-coded : (o : Ops) (n : ℕ) (t s : Signal) → Part-of n t s → Coded o n s → Coded o n t
+part-coded o n t s r coded p h =
+    let e = r .4 p h in
+    rw e (coded (r .1 * 2 ^ (n - r .0) + p % 2 ^ (n - r .0)) (part-pattern n (r .0) (r .1) p (r .2) (r .3)))

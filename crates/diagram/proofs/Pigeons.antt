@@ -37,8 +37,8 @@ pigeonhole (suc m) (suc k) f low once =
     other i h e = let s : i ≡ m = once i m (omega arith) (omega arith) e in omega arith
 
 -- the same by a relation: each i below m has a place below k, and no two share one
-pub places : (m k : ℕ) (R : ℕ → ℕ → Type 0) → ((i : ℕ) → i < m → (j : ℕ) × (j < k) × R i j) → ((i i′ j : ℕ) → i < m → i′ < m → j < k → R i j → R i′ j → i ≡ i′) → m ≤ k
-places m k R place once = pigeonhole m k f
+pub pigeonhole-by : (m k : ℕ) (R : ℕ → ℕ → Type 0) → ((i : ℕ) → i < m → (j : ℕ) × (j < k) × R i j) → ((i i′ j : ℕ) → i < m → i′ < m → j < k → R i j → R i′ j → i ≡ i′) → m ≤ k
+pigeonhole-by m k R place once = pigeonhole m k f
     (λ i h. found i h .0)
     (λ i i′ h h′ e. once i i′ (f i′) h h′ (found i′ h′ .0) (rw e at (found i h .1)) (found i′ h′ .1))
   where

@@ -51,8 +51,12 @@ abbrev pub All-parts : Ops → ℕ → List Signal → ℕ → (ℕ → Signal) 
 All-parts o n ss used f =
     (k : ℕ) (t : Signal) → k < length ss → Part-of n t (nth ss k) → is-constant n t ≡ false → (i : ℕ) × (i < used) × One-part o n t (f i)
 
--- different parts of ss are at most as many as the number of different parts, and all of them are exactly as many
+-- m is the number of different parts of the signals of ss: all of them can be listed by m, and no more that differ
+pub record Number-of-parts (o : Ops) (n : ℕ) (ss : List Signal) (m : ℕ) : Type 0 where
+  pub listed : (f : ℕ → Signal) × Different-parts o n ss m f × All-parts o n ss m f
+  pub most : (used : ℕ) (f : ℕ → Signal) → Different-parts o n ss used f → used ≤ m
+  pub exact : (used : ℕ) (f : ℕ → Signal) → Different-parts o n ss used f → All-parts o n ss used f → m ≡ used
+
+-- the computed number is that number
 abbrev pub Counted : Type 0
-Counted =
-    (o : Ops) (n : ℕ) (ss : List Signal) (used : ℕ) (f : ℕ → Signal) → Different-parts o n ss used f
-    → (used ≤ part-count o n ss) × (All-parts o n ss used f → part-count o n ss ≡ used)
+Counted = (o : Ops) (n : ℕ) (ss : List Signal) → Number-of-parts o n ss (part-count o n ss)
