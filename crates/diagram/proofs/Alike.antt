@@ -1,7 +1,7 @@
 -- The tests on signals say what they mean, and to be one part is an equivalence.
 use mathlib.Core.Path.{_≡_, refl, sym, ap, subst, _∙_}
-use mathlib.Core.Bool.{Bool, true, false, _&&_, _||_}
-use mathlib.Core.Logic.{_⊎_, inl, inr}
+use mathlib.Core.Bool.{Bool, true, false, _&&_}
+use mathlib.Core.Logic.{inl, inr}
 use Prim.Native.Nat.{ℕ, _^_, _<_}
 use lib.Dec.{T, eqb}
 use lib.Pow.{pow-pos}
@@ -37,16 +37,18 @@ pub one-part-decides : (o : Ops) (n : ℕ) (s t : Signal) → Decides (one-part 
 one-part-decides o n s t =
     decides-or (same n s t) opposite (same-decides n s t)
     (decides-like opposite
-      (λ q. record { left-settled = q .0; right-settled = q .1 .0; left-turned = q .1 .1 .0; right-turned = q .1 .1 .1 })
-      (λ r. (r .left-settled, (r .right-settled, (r .left-turned, r .right-turned))))
-      (decides-and (settled-alone o n s) rest (settled-alone-decides o n s)
-        (decides-and (settled-alone o n t) turns (settled-alone-decides o n t)
-          (decides-and (same n (turned o s) t) (same n s (turned o t)) (same-decides n (turned o s) t) (same-decides n s (turned o t))))))
+    (λ q. record { left-settled = q .0; right-settled = q .1 .0; left-turned = q .1 .1 .0; right-turned = q .1 .1 .1 })
+    (λ r. (r .left-settled, (r .right-settled, (r .left-turned, r .right-turned))))
+    (decides-and (settled-alone o n s) rest (settled-alone-decides o n s)
+    (decides-and (settled-alone o n t) turns (settled-alone-decides o n t)
+    (decides-and (same n (turned o s) t) (same n s (turned o t)) (same-decides n (turned o s) t) (same-decides n s (turned o t))))))
   where
     turns : Bool
     turns = same n (turned o s) t && same n s (turned o t)
+
     rest : Bool
     rest = settled-alone o n t && turns
+
     opposite : Bool
     opposite = settled-alone o n s && rest
 
@@ -79,21 +81,24 @@ one-sym o n s t (inr r) =
       left-settled = r .right-settled;
       right-settled = r .left-settled;
       left-turned = agree-sym n s (turned o t) (r .right-turned);
-      right-turned = agree-sym n (turned o s) t (r .left-turned) })
+      right-turned = agree-sym n (turned o s) t (r .left-turned);
+    })
 
 opposite-agree : (o : Ops) (n : ℕ) (s t u : Signal) → Opposite o n s t → Agree n t u → Opposite o n s u
 opposite-agree o n s t u r e = record {
   left-settled = r .left-settled;
   right-settled = agree-settled o n t u e (r .right-settled);
   left-turned = agree-trans n (turned o s) t u (r .left-turned) e;
-  right-turned = agree-trans n s (turned o t) (turned o u) (r .right-turned) (agree-turned o n t u e) }
+  right-turned = agree-trans n s (turned o t) (turned o u) (r .right-turned) (agree-turned o n t u e);
+}
 
 agree-opposite : (o : Ops) (n : ℕ) (s t u : Signal) → Agree n s t → Opposite o n t u → Opposite o n s u
 agree-opposite o n s t u e r = record {
   left-settled = agree-settled o n t s (agree-sym n s t e) (r .left-settled);
   right-settled = r .right-settled;
   left-turned = agree-trans n (turned o s) (turned o t) u (agree-turned o n s t e) (r .left-turned);
-  right-turned = agree-trans n s t (turned o u) e (r .right-turned) }
+  right-turned = agree-trans n s t (turned o u) e (r .right-turned);
+}
 
 pub one-trans : (o : Ops) (n : ℕ) (s t u : Signal) → One-part o n s t → One-part o n t u → One-part o n s u
 one-trans o n s t u (inl e) (inl f) = inl (agree-trans n s t u e f)
@@ -111,7 +116,8 @@ one-turned o n s t laws coded settled e = inr (record {
   left-settled = settled;
   right-settled = agree-settled o n (turned o s) t e (λ p h. laws .turn-settled (s p) (coded p h) (settled p h));
   left-turned = e;
-  right-turned = λ p h. sym (laws .turn-back (s p) (coded p h) (settled p h)) ∙ ap (o .turn) (e p h) })
+  right-turned = λ p h. sym (laws .turn-back (s p) (coded p h) (settled p h)) ∙ ap (o .turn) (e p h);
+})
 
 -- what is one with a constant is constant
 one-constant-agree : (o : Ops) (n : ℕ) (s t : Signal) → One-part o n s t → Agree n s (constant (s 0)) → Agree n t (constant (t 0))

@@ -6,7 +6,7 @@ use mathlib.Core.Logic.{inl}
 use Prim.Native.Nat.{ℕ, zero, suc, _<_, _≤_, suc-le-suc}
 use native.Mathlib.Nat.{le-of-suc-le-suc}
 use native.Mathlib.Omega.{arith}
-use lib.ListN.{length, getD}
+use lib.ListN.{length}
 use Rattle.std.proofs.shelf.Elements.{all-getD}
 use Rattle.algebra.specs.Ops.{Ops}
 use Rattle.netlist.specs.Signals.{Signal, Agree, constant}
@@ -31,13 +31,13 @@ part-listed : (o : Ops) (n : ℕ) (ss : List Signal) (t : Signal) → Part-in o 
 part-listed o n ss t (k, h, u, r, e) =
     any-concat (One-part o n t) (map (parts n) ss)
     (any-map (Any (One-part o n t)) (parts n) ss
-      (any-at (λ s. Any (One-part o n t) (parts n s)) (constant 0) ss k h
-        (in-parts (One-part o n t) n (nth ss k) (r .0) (r .1) (r .2) (r .3) (one-trans o n t u (part n (nth ss k) (r .0) (r .1)) e (inl (r .4))))))
+    (any-at (λ s. Any (One-part o n t) (parts n s)) (constant 0) ss k h
+    (in-parts (One-part o n t) n (nth ss k) (r .0) (r .1) (r .2) (r .3) (one-trans o n t u (part n (nth ss k) (r .0) (r .1)) e (inl (r .4))))))
 
 listed-part : (o : Ops) (n : ℕ) (ss : List Signal) (t : Signal) → Any (One-part o n t) (all-parts n ss) → Part-in o n ss t
 listed-part o n ss t a =
     let p = any-place (λ s. Any (One-part o n t) (parts n s)) (constant 0) ss
-          (any-from-map (Any (One-part o n t)) (parts n) ss (any-from-concat (One-part o n t) (map (parts n) ss) a)) in
+    (any-from-map (Any (One-part o n t)) (parts n) ss (any-from-concat (One-part o n t) (map (parts n) ss) a)) in
     let q = from-parts (One-part o n t) n (nth ss (p .0)) (p .2) in
     (p .0, p .1, part n (nth ss (p .0)) (q .0) (q .1), (q .0, q .1, q .2, q .3, agree-refl n (part n (nth ss (p .0)) (q .0) (q .1))), q .4)
 
@@ -52,9 +52,13 @@ part-in-one o n ss t u e (k, h, v, r, q) = (k, h, v, r, one-trans o n t u v e q)
 pub part-in-part : (o : Ops) (n : ℕ) (ss : List Signal) (t u : Signal) → Part-of n u t → Part-in o n ss t → Part-in o n ss u
 part-in-part o n ss t u r (k, h, v, q, e) =
     let w = part n v (r .0) (r .1) in
-    let p = part n t (r .0) (r .1) in
-    (k, h, w, part-trans n w v (nth ss k) (r .0, r .1, r .2, r .3, agree-refl n w) q,
-      one-trans o n u p w (inl (r .4)) (one-of-parts o n t v (r .0) (r .1) (r .2) (r .3) e))
+    let p = part n t (r .0) (r .1) in (
+      k,
+      h,
+      w,
+      part-trans n w v (nth ss k) (r .0, r .1, r .2, r .3, agree-refl n w) q,
+      one-trans o n u p w (inl (r .4)) (one-of-parts o n t v (r .0) (r .1) (r .2) (r .3) e),
+    )
 
 -- ---- the count
 
@@ -72,7 +76,8 @@ unfolding part-count
 different-parts o n ss = record {
   apart = apart-places o n (kept o n ss) (different-apart o n (all-parts n ss));
   vary = kept-varies o n ss;
-  from = kept-part o n ss }
+  from = kept-part o n ss;
+}
 
 -- different parts are no more than the number of them
 pub at-least : (o : Ops) (n : ℕ) (ss : List Signal) (used : ℕ) (f : ℕ → Signal) → Different-parts o n ss used f → used ≤ part-count o n ss
@@ -80,7 +85,7 @@ unfolding part-count
 at-least o n ss used f d =
     pigeonhole-by used (length (kept o n ss)) (λ i j. One-part o n (f i) (nth (kept o n ss) j))
     (λ i h. any-place (One-part o n (f i)) (constant 0) (kept o n ss)
-      (different-covers o n (f i) (d .vary i h) (all-parts n ss) (part-listed o n ss (f i) (d .from i h))))
+    (different-covers o n (f i) (d .vary i h) (all-parts n ss) (part-listed o n ss (f i) (d .from i h))))
     (λ i i′ j h h′ _ r q. d .apart i i′ h h′ (one-trans o n (f i) (nth (kept o n ss) j) (f i′) r (one-sym o n (f i′) (nth (kept o n ss) j) q)))
 
 -- parts among which all are found are no fewer
@@ -90,7 +95,7 @@ at-most o n ss used f all =
     pigeonhole-by (length (kept o n ss)) used (λ j i. One-part o n (nth (kept o n ss) j) (f i))
     (λ j h. met (nth (kept o n ss) j) (kept-varies o n ss j h) (kept-part o n ss j h))
     (λ j j′ i h h′ _ r q. apart-places o n (kept o n ss) (different-apart o n (all-parts n ss)) j j′ h h′
-      (one-trans o n (nth (kept o n ss) j) (f i) (nth (kept o n ss) j′) r (one-sym o n (nth (kept o n ss) j′) (f i) q)))
+    (one-trans o n (nth (kept o n ss) j) (f i) (nth (kept o n ss) j′) r (one-sym o n (nth (kept o n ss) j′) (f i) q)))
   where
     met : (t : Signal) → is-constant n t ≡ false → Part-in o n ss t → (i : ℕ) × (i < used) × One-part o n t (f i)
     met t v (k, h, u, r, e) =
@@ -111,7 +116,8 @@ pub counted : Counted
 counted o n ss = record {
   listed = (nth (kept o n ss), different-parts o n ss, all-found o n ss);
   most = at-least o n ss;
-  exact = exactly o n ss }
+  exact = exactly o n ss;
+}
 
 -- one part more than those of a family
 first : Signal → (ℕ → Signal) → ℕ → Signal
@@ -127,9 +133,11 @@ one-more o n ss used f t d r v new = at-least o n ss (suc used) (first t f) (rec
     apart zero (suc j) h l q = absurd (new j (le-of-suc-le-suc l) (one-sym o n t (f j) q))
     apart (suc i) zero h l q = absurd (new i (le-of-suc-le-suc h) q)
     apart (suc i) (suc j) h l q = ap suc (d .apart i j (le-of-suc-le-suc h) (le-of-suc-le-suc l) q)
+
     vary : (i : ℕ) → i < suc used → is-constant n (first t f i) ≡ false
     vary zero h = v
     vary (suc i) h = d .vary i (le-of-suc-le-suc h)
+
     from : (i : ℕ) → i < suc used → Part-in o n ss (first t f i)
     from zero h = r
     from (suc i) h = d .from i (le-of-suc-le-suc h)

@@ -1,20 +1,20 @@
 -- The listed parts of a signal are its parts, and a part of a part is a part.
-use mathlib.Core.Path.{_≡_, refl, sym, ap, _∙_}
-use mathlib.Core.List.{List, map}
+use mathlib.Core.Path.{_≡_, sym, ap, _∙_}
+use mathlib.Core.List.{map}
 use mathlib.Core.Logic.{inl, inr, ⊎-elim}
-use Prim.Native.Nat.{ℕ, suc, _+_, _*_, _-_, _^_, _/_, _%_, _≤_, _<_}
+use Prim.Native.Nat.{ℕ, suc, _+_, _*_, _-_, _^_, _%_, _≤_, _<_}
 use native.Mathlib.Nat.{mod-lt, mod-eq-of-lt, mul-assoc, add-assoc, add-mul}
 use native.Mathlib.Omega.{arith}
-use lib.ListN.{length, getD}
+use lib.ListN.{length}
 use lib.Arith.{digits-lt}
 use lib.Pow.{pow-pos, pow-add, high, low, mod-pow-add, mod-mod-pow}
 use Rattle.std.proofs.shelf.Tests.{cases-lt}
 use Rattle.algebra.specs.Ops.{Ops}
 use Rattle.netlist.specs.Signals.{Signal, Agree, constant}
-use Rattle.netlist.specs.Parts.{below, concat, part, parts}
-use Rattle.diagram.specs.Counts.{Coded, Opposite, One-part, Part-of, nth}
+use Rattle.netlist.specs.Parts.{below, part, parts}
+use Rattle.diagram.specs.Counts.{Coded, One-part, Part-of, nth}
 use Rattle.diagram.proofs.Alike.{agree-trans, agree-sym, agree-refl}
-use Rattle.diagram.proofs.Anys.{Any, any-at, any-place, any-weaker, any-map, any-from-map, any-concat, any-from-concat, any-below, any-from-below}
+use Rattle.diagram.proofs.Anys.{Any, any-at, any-place, any-map, any-from-map, any-concat, any-from-concat, any-below, any-from-below}
 
 -- ---- the list of parts
 
@@ -23,15 +23,15 @@ unfolding parts
 in-parts P n s k a hk ha p =
     any-concat P (map (λ k. map (part n s k) (below (2 ^ k))) (below (suc n)))
     (any-map (Any P) (λ k. map (part n s k) (below (2 ^ k))) (below (suc n))
-      (any-below (λ k. Any P (map (part n s k) (below (2 ^ k)))) (suc n) k (omega arith)
-        (any-map P (part n s k) (below (2 ^ k)) (any-below (λ a. P (part n s k a)) (2 ^ k) a ha p))))
+    (any-below (λ k. Any P (map (part n s k) (below (2 ^ k)))) (suc n) k (omega arith)
+    (any-map P (part n s k) (below (2 ^ k)) (any-below (λ a. P (part n s k a)) (2 ^ k) a ha p))))
 
 pub from-parts : (P : Signal → Type 0) (n : ℕ) (s : Signal) → Any P (parts n s) → (k : ℕ) × (a : ℕ) × (k ≤ n) × (a < 2 ^ k) × P (part n s k a)
 unfolding parts
 from-parts P n s x =
     let f = any-from-below (λ k. Any P (map (part n s k) (below (2 ^ k)))) (suc n)
-          (any-from-map (Any P) (λ k. map (part n s k) (below (2 ^ k))) (below (suc n))
-            (any-from-concat P (map (λ k. map (part n s k) (below (2 ^ k))) (below (suc n))) x)) in
+    (any-from-map (Any P) (λ k. map (part n s k) (below (2 ^ k))) (below (suc n))
+    (any-from-concat P (map (λ k. map (part n s k) (below (2 ^ k))) (below (suc n))) x)) in
     let g = any-from-below (λ a. P (part n s (f .0) a)) (2 ^ (f .0)) (any-from-map P (part n s (f .0)) (below (2 ^ (f .0))) (f .2)) in
     let h : f .0 < suc n = f .1 in
     (f .0, g .0, omega arith, g .1, g .2)
@@ -67,10 +67,14 @@ part-of-itself n s = (0, 0, omega arith, omega arith, λ p h. ap s (itself p h))
         omega arith
 
 pub part-of-agree : (n : ℕ) (t t′ s s′ : Signal) → Agree n t t′ → Agree n s s′ → Part-of n t s → Part-of n t′ s′
-part-of-agree n t t′ s s′ e f r =
-    (r .0, r .1, r .2, r .3,
-      agree-trans n t′ t (part n s′ (r .0) (r .1)) (agree-sym n t t′ e)
-        (agree-trans n t (part n s (r .0) (r .1)) (part n s′ (r .0) (r .1)) (r .4) (part-agree n s s′ (r .0) (r .1) (r .2) (r .3) f)))
+part-of-agree n t t′ s s′ e f r = (
+  r .0,
+  r .1,
+  r .2,
+  r .3,
+  agree-trans n t′ t (part n s′ (r .0) (r .1)) (agree-sym n t t′ e)
+      (agree-trans n t (part n s (r .0) (r .1)) (part n s′ (r .0) (r .1)) (r .4) (part-agree n s s′ (r .0) (r .1) (r .2) (r .3) f)),
+)
 
 -- fewer bits fixed once more: the part stays. The low l bits of a pattern whose low j + l bits are those of p
 again : (m c p j l : ℕ) → m ≡ j + l → (c * 2 ^ m + p % 2 ^ m) % 2 ^ l ≡ p % 2 ^ l
@@ -88,9 +92,9 @@ further : (m a b p j l : ℕ) → m ≡ j + l → a * 2 ^ m + (b * 2 ^ l + p % 2
 further m a b p j l e =
     rw e
     (ap (λ x. a * 2 ^ (j + l) + x)
-      (mod-pow-add (b * 2 ^ l + p % 2 ^ l) j l
-      ∙ ap (λ x. (x % 2 ^ j) * 2 ^ l + (b * 2 ^ l + p % 2 ^ l) % 2 ^ l) (high b l (mod-lt p (pow-pos l)))
-        ∙ ap (λ x. (b % 2 ^ j) * 2 ^ l + x) (low b l (mod-lt p (pow-pos l))))
+    (mod-pow-add (b * 2 ^ l + p % 2 ^ l) j l
+    ∙ ap (λ x. (x % 2 ^ j) * 2 ^ l + (b * 2 ^ l + p % 2 ^ l) % 2 ^ l) (high b l (mod-lt p (pow-pos l)))
+    ∙ ap (λ x. (b % 2 ^ j) * 2 ^ l + x) (low b l (mod-lt p (pow-pos l))))
     ∙ ap (λ x. a * x + ((b % 2 ^ j) * 2 ^ l + p % 2 ^ l)) (pow-add 2 j l)
     ∙ regroup a (2 ^ j) (2 ^ l) (b % 2 ^ j) (p % 2 ^ l))
 
@@ -107,6 +111,7 @@ part-of-part n s k a k′ a′ hk ha hk′ ha′ = ⊎-elim more fewer (cases-lt
         let f : k′ ≡ k + j = omega arith in
         let b = a * 2 ^ j + a′ % 2 ^ j in
         (k′, b, hk′, further-below k′ k a a′ j f ha, λ p _. ap s (further (n - k) a a′ p j (n - k′) e))
+
     fewer : k′ ≤ k → Part-of n (part n (part n s k a) k′ a′) s
     fewer h =
         let e : n - k′ ≡ (k - k′) + (n - k) = omega arith in
@@ -115,11 +120,11 @@ part-of-part n s k a k′ a′ hk ha hk′ ha′ = ⊎-elim more fewer (cases-lt
 pub part-trans : (n : ℕ) (u t s : Signal) → Part-of n u t → Part-of n t s → Part-of n u s
 part-trans n u t s r q =
     part-of-agree n (part n (part n s (q .0) (q .1)) (r .0) (r .1)) u s s
-      (agree-sym n u (part n (part n s (q .0) (q .1)) (r .0) (r .1))
-        (agree-trans n u (part n t (r .0) (r .1)) (part n (part n s (q .0) (q .1)) (r .0) (r .1)) (r .4)
-          (part-agree n t (part n s (q .0) (q .1)) (r .0) (r .1) (r .2) (r .3) (q .4))))
-      (agree-refl n s)
-      (part-of-part n s (q .0) (q .1) (r .0) (r .1) (q .2) (q .3) (r .2) (r .3))
+    (agree-sym n u (part n (part n s (q .0) (q .1)) (r .0) (r .1))
+    (agree-trans n u (part n t (r .0) (r .1)) (part n (part n s (q .0) (q .1)) (r .0) (r .1)) (r .4)
+    (part-agree n t (part n s (q .0) (q .1)) (r .0) (r .1) (r .2) (r .3) (q .4))))
+    (agree-refl n s)
+    (part-of-part n s (q .0) (q .1) (r .0) (r .1) (q .2) (q .3) (r .2) (r .3))
 
 -- equal parts of what is one part are one part
 pub one-of-parts : (o : Ops) (n : ℕ) (s t : Signal) (k a : ℕ) → k ≤ n → a < 2 ^ k → One-part o n s t → One-part o n (part n s k a) (part n t k a)
@@ -129,12 +134,13 @@ one-of-parts o n s t k a hk ha (inr r) =
       left-settled = λ p _. r .left-settled (read p) (part-pattern n k a p hk ha);
       right-settled = λ p _. r .right-settled (read p) (part-pattern n k a p hk ha);
       left-turned = λ p _. r .left-turned (read p) (part-pattern n k a p hk ha);
-      right-turned = λ p _. r .right-turned (read p) (part-pattern n k a p hk ha) })
+      right-turned = λ p _. r .right-turned (read p) (part-pattern n k a p hk ha);
+    })
   where
     read : ℕ → ℕ
     read p = a * 2 ^ (n - k) + p % 2 ^ (n - k)
 
--- a part of a signal of codes is one
+-- a part of a signal of codes has codes for its values
 pub part-coded : (o : Ops) (n : ℕ) (t s : Signal) → Part-of n t s → Coded o n s → Coded o n t
 part-coded o n t s r coded p h =
     let e = r .4 p h in

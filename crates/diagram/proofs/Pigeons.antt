@@ -29,9 +29,9 @@ pigeonhole zero k f low once = zero-le
 pigeonhole (suc m) zero f low once = let h : f 0 < 0 = low 0 (omega arith) in omega arith
 pigeonhole (suc m) (suc k) f low once =
     suc-le-suc (pigeonhole m k
-      (λ i. moved k (f m) (f i) (cases-eq (f i) k))
-      (λ i h. moved-below k (f m) (f i) (cases-eq (f i) k) (low m (omega arith)) (low i (omega arith)) (other i h))
-      (λ i j h l e. once i j (omega arith) (omega arith) (moved-same k (f m) (f i) (f j) (cases-eq (f i) k) (cases-eq (f j) k) (other i h) (other j l) e)))
+    (λ i. moved k (f m) (f i) (cases-eq (f i) k))
+    (λ i h. moved-below k (f m) (f i) (cases-eq (f i) k) (low m (omega arith)) (low i (omega arith)) (other i h))
+    (λ i j h l e. once i j (omega arith) (omega arith) (moved-same k (f m) (f i) (f j) (cases-eq (f i) k) (cases-eq (f j) k) (other i h) (other j l) e)))
   where
     other : (i : ℕ) → i < m → f i ≡ f m → ⊥
     other i h e = let s : i ≡ m = once i m (omega arith) (omega arith) e in omega arith
@@ -45,10 +45,13 @@ pigeonhole-by m k R place once = pigeonhole m k f
     choose : (i : ℕ) → Dec (i < m) → ℕ
     choose i (yes h) = place i h .0
     choose i (no h) = 0
+
     chosen : (i : ℕ) (d : Dec (i < m)) → i < m → (choose i d < k) × R i (choose i d)
     chosen i (yes h) l = (place i h .1, place i h .2)
     chosen i (no h) l = absurd (h l)
+
     f : ℕ → ℕ
     f i = choose i (decLt i m)
+
     found : (i : ℕ) → i < m → (f i < k) × R i (f i)
     found i h = chosen i (decLt i m) h

@@ -1,11 +1,11 @@
 -- What is left of a list of signals when constants and repetitions are dropped.
 use mathlib.Core.Path.{_≡_, refl, ap}
-use mathlib.Core.Bool.{Bool, true, false, cond, _||_}
+use mathlib.Core.Bool.{Bool, true, false, _||_}
 use mathlib.Core.List.{List, [], _∷_}
 use mathlib.Core.Logic.{inl, inr, ⊎-elim}
 use Prim.Native.Nat.{ℕ, zero, suc, _<_}
 use native.Mathlib.Nat.{le-of-suc-le-suc, not-suc-le-zero}
-use lib.ListN.{length, getD}
+use lib.ListN.{length}
 use Rattle.std.specs.Orderings.{Decides}
 use Rattle.std.specs.shelf.Lists.{All}
 use Rattle.std.proofs.shelf.Tests.{false≢true, both-ways, or-cases, or-parts, cond-both}
@@ -63,17 +63,19 @@ different-apart o n [] = tt
 different-apart o n (t ∷ ts) =
     cond-both (dropped o n t ts) (different o n ts) (t ∷ different o n ts) (Apart o n)
     (λ _. different-apart o n ts)
-    (λ e. (λ a. both-ways (among (one-part o n t) ts) (or-parts (is-constant n t) (among (one-part o n t) ts) e .1)
-            (among-decides (one-part o n t) (One-part o n t) (one-part-decides o n t) ts .1 (different-among o n (One-part o n t) ts a)),
-          different-apart o n ts))
+    (λ e. (
+      λ a. both-ways (among (one-part o n t) ts) (or-parts (is-constant n t) (among (one-part o n t) ts) e .1)
+          (among-decides (one-part o n t) (One-part o n t) (one-part-decides o n t) ts .1 (different-among o n (One-part o n t) ts a)),
+      different-apart o n ts,
+    ))
 
 -- a member that is dropped, and is one with t, which is not constant, is one with a later member
 met-later : (o : Ops) (n : ℕ) (t x : Signal) (xs : List Signal) → is-constant n t ≡ false → dropped o n x xs ≡ true → One-part o n t x → Any (One-part o n t) xs
 met-later o n t x xs v e r =
     ⊎-elim
-      (λ c. absurd (both-ways (is-constant n t) v (one-constant o n x t (one-sym o n t x r) c)))
-      (λ m. any-weaker (One-part o n x) (One-part o n t) (λ y q. one-trans o n t x y r q) xs
-        (among-decides (one-part o n x) (One-part o n x) (one-part-decides o n x) xs .0 m))
+    (λ c. absurd (both-ways (is-constant n t) v (one-constant o n x t (one-sym o n t x r) c)))
+    (λ m. any-weaker (One-part o n x) (One-part o n t) (λ y q. one-trans o n t x y r q) xs
+    (among-decides (one-part o n x) (One-part o n x) (one-part-decides o n x) xs .0 m))
     (or-cases (is-constant n x) (among (one-part o n x) xs) e)
 
 -- what is not constant, and is one with a member, is one with a member that is left
