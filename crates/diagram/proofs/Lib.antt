@@ -1,0 +1,6 @@
+pub mod Pigeons
+pub mod Alike
+pub mod Anys
+pub mod Pieces
+pub mod Sieve
+pub mod Counting
