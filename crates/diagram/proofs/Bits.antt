@@ -57,6 +57,23 @@ fixed-before n k a p i l h =
 pow-le : (i j : ℕ) → i ≤ j → 2 ^ i ≤ 2 ^ j
 pow-le i j l = pow-mono l
 
+-- the last fixed bit is the last of a
+pub fixed-last : (n i a p : ℕ) → i < n → bit n (fixed n (i + 1) a p) i ≡ a % 2
+fixed-last n i a p l =
+    fixed-before n (i + 1) a p i (omega arith) (omega arith)
+    ∙ ap (λ x. (a / 2 ^ x) % 2) (zeroth i)
+    ∙ ap (λ x. x % 2) (div-one a)
+  where
+    zeroth : (i : ℕ) → i + 1 - 1 - i ≡ 0
+    zeroth i = omega arith
+
+-- bit i set to b, the bits before it cleared
+pub chosen-below : (n i b p : ℕ) → i < n → b < 2 → fixed n (i + 1) b p < 2 ^ n
+chosen-below n i b p l h = fixed-below n (i + 1) b p (omega arith) (omega (arith, pow-add 2 i 1, pow-pos i))
+
+pub chosen-bit : (n i b p : ℕ) → i < n → b < 2 → bit n (fixed n (i + 1) b p) i ≡ b
+chosen-bit n i b p l h = fixed-last n i b p l ∙ omega arith
+
 -- the first k bits cleared
 pub rest-after : (n k p i : ℕ) → k ≤ i → i < n → bit n (p % 2 ^ (n - k)) i ≡ bit n p i
 rest-after n k p i l h = digit-low p (n - 1 - i) (n - k) (omega arith)

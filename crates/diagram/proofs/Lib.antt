@@ -1,2 +1,4 @@
 pub mod Bits
 pub mod Values
+pub mod Masks
+pub mod Canon
