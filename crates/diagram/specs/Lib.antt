@@ -1,3 +1,4 @@
 pub mod Stores
 pub mod Rules
 pub mod Changes
+pub mod Marks
