@@ -1,9 +1,9 @@
 -- Bits of pattern numbers, and patterns whose first bits are fixed. Assumes nothing.
-use mathlib.Core.Path.{_≡_, sym, ap, _∙_}
+use mathlib.Core.Path.{_≡_, sym, ap, _∙_, subst}
 use mathlib.Core.Logic.{⊎-elim}
 use Prim.Native.Nat.{ℕ, zero, suc, _+_, _-_, _*_, _/_, _%_, _^_, _<_, _≤_}
 use native.Mathlib.Omega.{arith}
-use native.Mathlib.Nat.{div-one, div-eq-of-lt, add-mul, one-mul}
+use native.Mathlib.Nat.{div-one, div-eq-of-lt, mod-le, add-mul, one-mul}
 use lib.Pow.{mod-mod-pow, pow-mono}
 use Rattle.std.proofs.shelf.Bits.{pow-pos, pow-add, shr-shr, shr-split, field-of, shr-high, mod-low, mod-below, div-below, mul-add-lt, mul-le}
 use Rattle.std.proofs.shelf.Tests.{cases-lt}
@@ -106,6 +106,20 @@ up-large n p i e =
 
 pub small-down : (n p i : ℕ) → p < 2 ^ (n - 1 - i) → bit n p i ≡ 0
 small-down n p i h = ap (λ x. x % 2) (div-eq-of-lt {n = p} {m = 2 ^ (n - 1 - i)} h)
+
+-- bit i and those before it cleared: what is left is small
+pub cleared-small : (n i p : ℕ) → i < n → fixed n (i + 1) 0 p < 2 ^ (n - 1 - i)
+cleared-small n i p l =
+    let same : n - (i + 1) ≡ n - 1 - i = omega arith in
+    subst (λ x. 0 * 2 ^ x + p % 2 ^ x < 2 ^ (n - 1 - i)) (sym same) (omega (arith, mod-below p (2 ^ (n - 1 - i)) (pow-pos (n - 1 - i))))
+
+-- what is below q without its bit i comes, with that bit, below q
+pub raised-before : (n i r q : ℕ) → i < n → bit n q i ≡ 1 → r < fixed n (i + 1) 0 q → fixed n (i + 1) 1 r < q
+raised-before n i r q l e h =
+    let k = n - (i + 1) in
+    let same : n - 1 - i ≡ k = omega arith in
+    let large : 2 ^ k + q % 2 ^ k ≤ q = subst (λ x. 2 ^ x + q % 2 ^ x ≤ q) same (up-large n q i e) in
+    omega (arith, mod-le r (2 ^ k))
 
 -- bit i set to b, and every other bit as it was
 abbrev pub with-bit : ℕ → ℕ → ℕ → ℕ → ℕ

@@ -4,3 +4,4 @@ pub mod Masks
 pub mod Canon
 pub mod Negates
 pub mod Reaches
+pub mod Firsts
