@@ -63,6 +63,10 @@ choice-up o s i low high q e = ap (λ h. value o s h q) (cond-true (eqb (bit (s 
 pub bit-cases : (n p i : ℕ) → (bit n p i ≡ 0) ⊎ (bit n p i ≡ 1)
 bit-cases n p i = ⊎-elim (λ c. inl (omega arith)) (λ c. inr (omega arith)) (cases-lt (bit n p i) 1)
 
+-- a side does not see its record's input, nor those before it
+pub side-same : (o : Ops) {s : Store} (w : Well s) (i h b q : ℕ) → Within s h → i < level s h → value o s h (fixed (s .inputs) (i + 1) b q) ≡ value o s h q
+side-same o {s} w i h b q u deeper = ignores o w h (fixed (s .inputs) (i + 1) b q) q u (λ j k m. fixed-after (s .inputs) (i + 1) b q j (omega arith) m)
+
 module _ {o : Ops} (laws : Laws o) {s : Store} (w : Well s) (sound : Sound o s) where
   -- of one handle
   pub first-plain : (h q : ℕ) → Lawful o s h → Settled-alone o s h → Leads o (s .inputs) (value o s h) q → o .plain (value o s h q) ≡ leads-plain o h
@@ -93,10 +97,6 @@ module _ {o : Ops} (laws : Laws o) {s : Store} (w : Well s) (sound : Sound o s) 
         (cases-bool (marked h)))
       (cases-lt h 16)
 
-  -- a side does not see its record's input, nor those before it
-  pub side-same : (i h b q : ℕ) → i < s .inputs → Within s h → i < level s h → value o s h (fixed (s .inputs) (i + 1) b q) ≡ value o s h q
-  side-same i h b q inside u deeper = ignores o w h (fixed (s .inputs) (i + 1) b q) q u (λ j k m. fixed-after (s .inputs) (i + 1) b q j (omega arith) m)
-
   module _ (i low high : ℕ) (sides : Sides s i low high) (low-lawful : Lawful o s low) (high-lawful : Lawful o s high) where
     low-leads : (q : ℕ) → Some-firm o s low → Leads o (s .inputs) (choice o s i low high) q → Leads o (s .inputs) (value o s low) q × (choice o s i low high q ≡ value o s low q)
     low-leads q some f =
@@ -104,7 +104,7 @@ module _ {o : Ops} (laws : Laws o) {s : Store} (w : Well s) (sound : Sound o s) 
         let inside = sides .inside in
         let r0 = fixed n (i + 1) 0 (some .0) in
         let firm-there : Firm o (choice o s i low high r0) =
-            subst (Firm o) (sym (choice-down o s i low high r0 (chosen-bit n i 0 (some .0) inside (omega arith)) ∙ side-same i low 0 (some .0) inside (sides .low-within) (sides .low-deeper))) (some .2) in
+            subst (Firm o) (sym (choice-down o s i low high r0 (chosen-bit n i 0 (some .0) inside (omega arith)) ∙ side-same o w i low 0 (some .0) (sides .low-within) (sides .low-deeper))) (some .2) in
         let small : q < 2 ^ (n - 1 - i) = ⊎-elim (λ l. absurd (f .first r0 l firm-there)) (λ l. omega (arith, cleared-small n i (some .0) inside)) (cases-lt r0 q) in
         let here : (r : ℕ) → r ≤ q → choice o s i low high r ≡ value o s low r = λ r l. choice-down o s i low high r (small-down n r i (omega arith)) in
         (
@@ -122,7 +122,7 @@ module _ {o : Ops} (laws : Laws o) {s : Store} (w : Well s) (sound : Sound o s) 
         let n = s .inputs in
         let inside = sides .inside in
         let bit-up : bit n q i ≡ 1 = ⊎-elim (λ e. absurd (none (q, f .within, subst (Firm o) (choice-down o s i low high q e) (f .firm)))) (λ e. e) (bit-cases n q i) in
-        let same : (b r : ℕ) → value o s high (fixed n (i + 1) b r) ≡ value o s high r = λ b r. side-same i high b r inside (sides .high-within) (sides .high-deeper) in
+        let same : (b r : ℕ) → value o s high (fixed n (i + 1) b r) ≡ value o s high r = λ b r. side-same o w i high b r (sides .high-within) (sides .high-deeper) in
         let here : choice o s i low high q ≡ value o s high (fixed n (i + 1) 0 q) = choice-up o s i low high q bit-up ∙ sym (same 0 q) in
         (
           record {

@@ -5,3 +5,5 @@ pub mod Canon
 pub mod Negates
 pub mod Reaches
 pub mod Firsts
+pub mod Adds
+pub mod Makes
