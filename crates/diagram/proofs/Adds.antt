@@ -14,11 +14,11 @@ use Rattle.diagram.specs.Stores.{Store, handle, place, level, side, value, up}
 use Rattle.diagram.specs.Rules.{Placed, Well, Sound, Lawful, Occurs, Settled-alone, First-firm}
 use Rattle.diagram.specs.Changes.{Within, Grows, Added}
 use Rattle.diagram.specs.Marks.{Sides}
-use Rattle.diagram.proofs.Bits.{fixed, chosen-below, chosen-bit}
+use Rattle.diagram.proofs.Bits.{fixed, chosen-below}
 use Rattle.diagram.proofs.Values.{level-grows, lawful-grows, value-handle, value-grows}
 use Rattle.diagram.proofs.Masks.{Reach}
 use Rattle.diagram.proofs.Reaches.{Union}
-use Rattle.diagram.proofs.Firsts.{choice, choice-down, choice-up, bit-cases, side-same}
+use Rattle.diagram.proofs.Firsts.{choice, choice-down, choice-up, choice-low, choice-high, bit-cases}
 
 pub grows-refl : (s : Store) → Grows s s
 grows-refl s = record { inputs = refl; more = omega arith; same = λ p l. refl }
@@ -148,14 +148,14 @@ module _ {o : Ops} {s t : Store} {r : Record} (w : Well s) (v : Well t) (sound :
             (
               q,
               wide q (chosen-below n i 0 (at .0) inside (omega arith)),
-              value-new q ∙ choice-down o s i (r .low) (r .high) q (chosen-bit n i 0 (at .0) inside (omega arith)) ∙ ignored (r .low) 0 (at .0) (sides .low-within) (sides .low-deeper) ∙ at .2
+              value-new q ∙ choice-low o w i (r .low) (r .high) (at .0) inside (sides .low-within) (sides .low-deeper) ∙ at .2
             ))
           (λ at.
             let q = fixed n (i + 1) 1 (at .0) in
             (
               q,
               wide q (chosen-below n i 1 (at .0) inside (omega arith)),
-              value-new q ∙ choice-up o s i (r .low) (r .high) q (chosen-bit n i 1 (at .0) inside (omega arith)) ∙ ignored (r .high) 1 (at .0) (sides .high-within) (sides .high-deeper) ∙ at .2
+              value-new q ∙ choice-high o w i (r .low) (r .high) (at .0) inside (sides .high-within) (sides .high-deeper) ∙ at .2
             ))
           (mask .reached x e);
         reaches = λ q k.
@@ -165,9 +165,6 @@ module _ {o : Ops} {s t : Store} {r : Record} (w : Well s) (v : Well t) (sound :
           (λ e. ap (up (r .reach)) (value-new q ∙ choice-up o s i (r .low) (r .high) q e) ∙ mask .high-reaches q l)
           (bit-cases n q i);
       }
-    where
-      ignored : (h b q : ℕ) → Within s h → r .input < level s h → value o s h (fixed (s .inputs) (r .input + 1) b q) ≡ value o s h q
-      ignored h b q u deeper = side-same o w (r .input) h b q u deeper
 
   pub sound-added : ((q : ℕ) → Settled-alone o t (handle (s .used)) → First-firm o t (handle (s .used)) q → o .plain (value o t (handle (s .used)) q) ≡ true) → Sound o t
   unfolding grows

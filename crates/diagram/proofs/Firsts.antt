@@ -67,6 +67,17 @@ bit-cases n p i = ⊎-elim (λ c. inl (omega arith)) (λ c. inr (omega arith)) (
 pub side-same : (o : Ops) {s : Store} (w : Well s) (i h b q : ℕ) → Within s h → i < level s h → value o s h (fixed (s .inputs) (i + 1) b q) ≡ value o s h q
 side-same o {s} w i h b q u deeper = ignores o w h (fixed (s .inputs) (i + 1) b q) q u (λ j k m. fixed-after (s .inputs) (i + 1) b q j (omega arith) m)
 
+-- each side is met where the bit is its own
+pub choice-low : (o : Ops) {s : Store} (w : Well s) (i low high q : ℕ) → i < s .inputs → Within s low → i < level s low
+  → choice o s i low high (fixed (s .inputs) (i + 1) 0 q) ≡ value o s low q
+choice-low o {s} w i low high q inside u deeper =
+    choice-down o s i low high (fixed (s .inputs) (i + 1) 0 q) (chosen-bit (s .inputs) i 0 q inside (omega arith)) ∙ side-same o w i low 0 q u deeper
+
+pub choice-high : (o : Ops) {s : Store} (w : Well s) (i low high q : ℕ) → i < s .inputs → Within s high → i < level s high
+  → choice o s i low high (fixed (s .inputs) (i + 1) 1 q) ≡ value o s high q
+choice-high o {s} w i low high q inside u deeper =
+    choice-up o s i low high (fixed (s .inputs) (i + 1) 1 q) (chosen-bit (s .inputs) i 1 q inside (omega arith)) ∙ side-same o w i high 1 q u deeper
+
 module _ {o : Ops} (laws : Laws o) {s : Store} (w : Well s) (sound : Sound o s) where
   -- of one handle
   pub first-plain : (h q : ℕ) → Lawful o s h → Settled-alone o s h → Leads o (s .inputs) (value o s h) q → o .plain (value o s h q) ≡ leads-plain o h
@@ -104,7 +115,7 @@ module _ {o : Ops} (laws : Laws o) {s : Store} (w : Well s) (sound : Sound o s) 
         let inside = sides .inside in
         let r0 = fixed n (i + 1) 0 (some .0) in
         let firm-there : Firm o (choice o s i low high r0) =
-            subst (Firm o) (sym (choice-down o s i low high r0 (chosen-bit n i 0 (some .0) inside (omega arith)) ∙ side-same o w i low 0 (some .0) (sides .low-within) (sides .low-deeper))) (some .2) in
+            subst (Firm o) (sym (choice-low o w i low high (some .0) inside (sides .low-within) (sides .low-deeper))) (some .2) in
         let small : q < 2 ^ (n - 1 - i) = ⊎-elim (λ l. absurd (f .first r0 l firm-there)) (λ l. omega (arith, cleared-small n i (some .0) inside)) (cases-lt r0 q) in
         let here : (r : ℕ) → r ≤ q → choice o s i low high r ≡ value o s low r = λ r l. choice-down o s i low high r (small-down n r i (omega arith)) in
         (
@@ -122,15 +133,14 @@ module _ {o : Ops} (laws : Laws o) {s : Store} (w : Well s) (sound : Sound o s) 
         let n = s .inputs in
         let inside = sides .inside in
         let bit-up : bit n q i ≡ 1 = ⊎-elim (λ e. absurd (none (q, f .within, subst (Firm o) (choice-down o s i low high q e) (f .firm)))) (λ e. e) (bit-cases n q i) in
-        let same : (b r : ℕ) → value o s high (fixed n (i + 1) b r) ≡ value o s high r = λ b r. side-same o w i high b r (sides .high-within) (sides .high-deeper) in
-        let here : choice o s i low high q ≡ value o s high (fixed n (i + 1) 0 q) = choice-up o s i low high q bit-up ∙ sym (same 0 q) in
+        let here : choice o s i low high q ≡ value o s high (fixed n (i + 1) 0 q) = choice-up o s i low high q bit-up ∙ sym (side-same o w i high 0 q (sides .high-within) (sides .high-deeper)) in
         (
           record {
             within = chosen-below n i 0 q inside (omega arith);
             firm = subst (Firm o) here (f .firm);
             first = λ r l firm.
                 f .first (fixed n (i + 1) 1 r) (raised-before n i r q inside bit-up l)
-                (subst (Firm o) (sym (choice-up o s i low high (fixed n (i + 1) 1 r) (chosen-bit n i 1 r inside (omega arith)) ∙ same 1 r)) firm);
+                (subst (Firm o) (sym (choice-high o w i low high r inside (sides .high-within) (sides .high-deeper))) firm);
           },
           here
         )

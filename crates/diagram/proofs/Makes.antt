@@ -16,12 +16,12 @@ use Rattle.diagram.specs.Stores.{Store, handle, place, marked, level, value, u
 use Rattle.diagram.specs.Rules.{Well, Sound, Lawful, settled-code, firm-code, settled-mask, firm-mask, may-mark, Settled-alone, First-firm}
 use Rattle.diagram.specs.Changes.{Within, Grows, Added}
 use Rattle.diagram.specs.Marks.{flipped, negate, turn-mask, reach-of, union, leads-plain, lead, turns, kept-low, kept-high, kept-reach, kept, made-handle, Sides, Made}
-use Rattle.diagram.proofs.Bits.{fixed, chosen-below, chosen-bit}
+use Rattle.diagram.proofs.Bits.{fixed, chosen-below}
 use Rattle.diagram.proofs.Values.{at-constant, place-handle, place-marked, level-place, place-lawful, handle-lawful, value-marked, codes}
 use Rattle.diagram.proofs.Masks.{all-at, all-fails, settled-code-settled, firm-code-firm, firm-turned, Some-firm, Reach, settled-is-mask, firm-is-mask}
 use Rattle.diagram.proofs.Negates.{negate-constant, negate-flips, negate-stays, negate-small, negate-large, negate-place, negate-before, negate-level, negate-lawful, negate-value, may-mark-bare, flipped-twice}
 use Rattle.diagram.proofs.Reaches.{up-one, up-union-left, up-union-right, Union, union-right, union-turned}
-use Rattle.diagram.proofs.Firsts.{choice, choice-down, choice-up, bit-cases, side-same, Leads, first-leads, leads-agree, leads-unturned, lead-plain}
+use Rattle.diagram.proofs.Firsts.{choice, choice-down, choice-up, choice-low, choice-high, bit-cases, Leads, first-leads, leads-agree, leads-unturned, lead-plain}
 use Rattle.diagram.proofs.Adds.{Absent, grows-refl, added-grows, well-added, value-at, value-new, reach-new, sound-added}
 
 -- The shape, which needs no rule.
@@ -151,14 +151,10 @@ module _ {o : Ops} (laws : Laws o) {s : Store} (w : Well s) (sound : Sound o s) 
       let firm = firm-code-firm o v (not-false (firm-code o v) (parts .1)) in
       let inside = sides .inside in
       ⊎-elim
-      (λ at.
-        let q = fixed n (i + 1) 0 (at .0) in
-        (q, chosen-below n i 0 (at .0) inside (omega arith), subst (Firm o)
-          (sym (choice-down o s i low high q (chosen-bit n i 0 (at .0) inside (omega arith)) ∙ side-same o w i low 0 (at .0) (sides .low-within) (sides .low-deeper) ∙ at .2)) firm))
-      (λ at.
-        let q = fixed n (i + 1) 1 (at .0) in
-        (q, chosen-below n i 1 (at .0) inside (omega arith), subst (Firm o)
-          (sym (choice-up o s i low high q (chosen-bit n i 1 (at .0) inside (omega arith)) ∙ side-same o w i high 1 (at .0) (sides .high-within) (sides .high-deeper) ∙ at .2)) firm))
+      (λ at. (fixed n (i + 1) 0 (at .0), chosen-below n i 0 (at .0) inside (omega arith),
+        subst (Firm o) (sym (choice-low o w i low high (at .0) inside (sides .low-within) (sides .low-deeper) ∙ at .2)) firm))
+      (λ at. (fixed n (i + 1) 1 (at .0), chosen-below n i 1 (at .0) inside (omega arith),
+        subst (Firm o) (sym (choice-high o w i low high (at .0) inside (sides .high-within) (sides .high-deeper) ∙ at .2)) firm))
       (mask .reached v (not-false (up m v) (parts .0)))
 
   -- under NOT the record has the NOT of the choice, and else the choice
