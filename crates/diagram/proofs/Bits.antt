@@ -3,7 +3,7 @@ use mathlib.Core.Path.{_≡_, sym, ap, _∙_, subst}
 use mathlib.Core.Logic.{⊎-elim}
 use Prim.Native.Nat.{ℕ, zero, suc, _+_, _-_, _*_, _/_, _%_, _^_, _<_, _≤_}
 use native.Mathlib.Omega.{arith}
-use native.Mathlib.Nat.{div-one, div-eq-of-lt, mod-le, add-mul, one-mul}
+use native.Mathlib.Nat.{div-one, div-eq-of-lt, mod-eq-of-lt, mod-le, add-mul, one-mul}
 use lib.Pow.{mod-mod-pow, pow-mono}
 use Rattle.std.proofs.shelf.Bits.{pow-pos, pow-add, shr-shr, shr-split, field-of, shr-high, mod-low, mod-below, div-below, mul-add-lt, mul-le}
 use Rattle.std.proofs.shelf.Tests.{cases-lt}
@@ -83,6 +83,13 @@ rest-before n k p i l h =
     let e : 2 ^ (n - k) ≤ 2 ^ (n - 1 - i) = pow-le (n - k) (n - 1 - i) (omega arith) in
     let d = rest-below n k p in
     ap (λ x. x % 2) (div-eq-of-lt {n = p % 2 ^ (n - k)} {m = 2 ^ (n - 1 - i)} (omega arith))
+
+-- no bit fixed
+pub fixed-none : (n a p : ℕ) → a < 1 → p < 2 ^ n → fixed n 0 a p ≡ p
+fixed-none n a p l h =
+    let e : n - 0 ≡ n = omega arith in
+    let z : a ≡ 0 = omega arith in
+    ap (λ x. a * 2 ^ x + p % 2 ^ x) e ∙ ap (λ x. x * 2 ^ n + p % 2 ^ n) z ∙ omega (arith, mod-eq-of-lt h)
 
 -- fixing one bit more, and then the same bits again, changes nothing
 pub fixed-fixed : (n k a p : ℕ) → k < n → fixed n k (a / 2) (fixed n (k + 1) a p) ≡ fixed n (k + 1) a p

@@ -7,3 +7,5 @@ pub mod Reaches
 pub mod Firsts
 pub mod Adds
 pub mod Makes
+pub mod Cofactors
+pub mod Subhandles

@@ -7,7 +7,7 @@ use lib.Dec.{eqb, ltb}
 use Rattle.algebra.specs.Ops.{Ops}
 use Rattle.netlist.specs.Signals.{bit}
 use Rattle.diagram.specs.declared.record.Record.{Record}
-use Rattle.diagram.specs.Stores.{Store, handle, place, marked, level, value, up}
+use Rattle.diagram.specs.Stores.{Store, handle, place, marked, level, side, value, up}
 use Rattle.diagram.specs.Rules.{Well, Sound, Lawful, firm-mask, may-mark}
 use Rattle.diagram.specs.Changes.{Within, Grows}
 
@@ -18,6 +18,12 @@ flipped h = cond (marked h) (h - 1) (h + 1)
 -- NOT of a handle that reaches settled values alone: a place that has no firm value is its own
 abbrev pub negate : Ops → Store → ℕ → ℕ
 negate o s h = cond (ltb h 16) (o .turn h) (cond (may-mark o (s .at (place h) .reach)) (flipped h) h)
+
+-- what is left of the handle of a place when the bit of its input is b
+abbrev pub cofactor : Ops → Store → ℕ → ℕ → ℕ
+cofactor o s h b =
+    let g = side (s .at (place h)) b in
+    cond (marked h) (negate o s g) g
 
 -- the NOT of each value below u that is in a mask
 unfoldable pub turn-below : Ops → ℕ → ℕ → ℕ
