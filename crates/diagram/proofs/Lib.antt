@@ -9,3 +9,5 @@ pub mod Adds
 pub mod Makes
 pub mod Cofactors
 pub mod Subhandles
+pub mod Distinct
+pub mod Backs
