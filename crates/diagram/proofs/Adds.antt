@@ -1,21 +1,21 @@
 -- A record added behind the last place in use: the shape and the rules stand. Assumes nothing.
 use mathlib.Core.Path.{_≡_, refl, sym, ap, _∙_, subst}
-use mathlib.Core.Bool.{Bool, true, false, cond}
+use mathlib.Core.Bool.{true, cond}
 use mathlib.Core.Logic.{_⊎_, inl, inr, ⊎-elim}
-use Prim.Native.Nat.{ℕ, zero, suc, _+_, _-_, _*_, _/_, _%_, _^_, _<_, _≤_}
+use Prim.Native.Nat.{ℕ, _+_, _^_, _<_, _≤_}
 use native.Mathlib.Omega.{arith}
-use lib.Dec.{T, eqb}
+use lib.Dec.{eqb}
 use Rattle.std.proofs.shelf.Tests.{cases-lt, cond-both}
 use Rattle.algebra.specs.Ops.{Ops}
-use Rattle.algebra.specs.Laws.{Laws, Firm}
 use Rattle.netlist.specs.Signals.{bit}
 use Rattle.diagram.specs.declared.record.Record.{Record}
-use Rattle.diagram.specs.Stores.{Store, handle, place, level, side, value, up}
+use Rattle.diagram.specs.Stores.{Store, handle, side, value, up}
 use Rattle.diagram.specs.Rules.{Placed, Well, Sound, Lawful, Occurs, Settled-alone, First-firm}
 use Rattle.diagram.specs.Changes.{Within, Grows, Added}
 use Rattle.diagram.specs.Marks.{Sides}
 use Rattle.diagram.proofs.Bits.{fixed, chosen-below}
 use Rattle.diagram.proofs.Values.{level-grows, lawful-grows, value-handle, value-grows}
+use Rattle.diagram.proofs.Moves.{pattern-moved, placed-moved, occurs-moved, settled-moved, first-moved}
 use Rattle.diagram.proofs.Masks.{Reach}
 use Rattle.diagram.proofs.Reaches.{Union}
 use Rattle.diagram.proofs.Firsts.{choice, choice-down, choice-up, choice-low, choice-high, bit-cases}
@@ -36,17 +36,6 @@ added-places {s} d p l = ⊎-elim inl (λ k. inr (omega (arith, d .used))) (case
 added-at : {s t : Store} {r : Record} → Added s t r → (p : ℕ) → p ≡ s .used → t .at p ≡ r
 added-at {s} {t} d p e = ap (t .at) e ∙ d .new
 
-placed-grows : {s t : Store} {r : Record} (grows : Grows s t) (p : ℕ) → p ≤ s .used → Placed s p r → Placed t p r
-placed-grows {s} {t} {r} grows p l q =
-    record {
-      within = omega (arith, grows .inputs, q .within);
-      low-before = q .low-before;
-      high-before = q .high-before;
-      low-deeper = omega (arith, level-grows grows (r .low) (omega (arith, q .low-before)), q .low-deeper);
-      high-deeper = omega (arith, level-grows grows (r .high) (omega (arith, q .high-before)), q .high-deeper);
-      sides-differ = q .sides-differ;
-    }
-
 -- no place in use holds that input and those sides
 abbrev pub Absent : Store → ℕ → ℕ → ℕ → Type 0
 Absent s i low high = (p : ℕ) → p < s .used → s .at p .input ≡ i → s .at p .low ≡ low → s .at p .high ≡ high → ⊥
@@ -56,8 +45,8 @@ well-added {s} {t} {r} w sides absent d =
     record {
       few = omega (arith, d .inputs, w .few);
       placed = λ p l. ⊎-elim
-        (λ k. subst (Placed t p) (sym (d .same p k)) (placed-grows (added-grows d) p (omega arith) (w .placed p k)))
-        (λ e. subst (Placed t p) (sym (added-at d p e)) (placed-grows (added-grows d) p (omega arith) (subst (λ x. Placed s x r) (sym e) here)))
+        (λ k. subst (Placed t p) (sym (d .same p k)) (moved p (omega arith) (w .placed p k)))
+        (λ e. subst (Placed t p) (sym (added-at d p e)) (moved p (omega arith) (subst (λ x. Placed s x r) (sym e) here)))
         (added-places d p l);
       apart = λ p q k l i x y. ⊎-elim
         (λ m. ⊎-elim
@@ -74,6 +63,9 @@ well-added {s} {t} {r} w sides absent d =
         (added-places d p k);
     }
   where
+    moved : {x : Record} (p : ℕ) → p ≤ s .used → Placed s p x → Placed t p x
+    moved p l = placed-moved p (d .inputs) (λ h k. level-grows (added-grows d) h (omega arith))
+
     here : Placed s (s .used) r
     here = record {
       within = sides .inside;
@@ -102,33 +94,15 @@ value-at o {s} {t} w v grows i low high p q u a b ei el eh =
     ∙ ap (λ x. value o t (cond c high x) q) el
     ∙ value-grows o w grows (cond c high low) q (cond-both c high low (Within s) (λ _. b) (λ _. a))
 
--- what holds in t holds in s, and back, of the handles of s
-module _ (o : Ops) {s t : Store} (w : Well s) (grows : Grows s t) where
-  narrow : (q : ℕ) → q < 2 ^ t .inputs → q < 2 ^ s .inputs
-  narrow q = subst (λ n. q < 2 ^ n) (grows .inputs)
-
-  widen : (q : ℕ) → q < 2 ^ s .inputs → q < 2 ^ t .inputs
-  widen q = subst (λ n. q < 2 ^ n) (sym (grows .inputs))
-
-  pub occurs-grows : (h v : ℕ) → Within s h → Occurs o s h v → Occurs o t h v
-  occurs-grows h v u x = (x .0, widen (x .0) (x .1), value-grows o w grows h (x .0) u ∙ x .2)
-
-  pub settled-back : (h : ℕ) → Within s h → Settled-alone o t h → Settled-alone o s h
-  settled-back h u alone q k = subst (λ v. T (o .settled v)) (value-grows o w grows h q u) (alone q (widen q k))
-
-  pub first-back : (h q : ℕ) → Within s h → First-firm o t h q → First-firm o s h q
-  first-back h q u f =
-      record {
-        within = narrow q (f .within);
-        firm = subst (Firm o) (value-grows o w grows h q u) (f .firm);
-        first = λ r l firm. f .first r l (subst (Firm o) (sym (value-grows o w grows h r u)) firm);
-      }
-
 -- the rules stand if the new record's sides are lawful, its reach is right and its first firm value is plain
 module _ {o : Ops} {s t : Store} {r : Record} (w : Well s) (v : Well t) (sound : Sound o s) (d : Added s t r) (sides : Sides s (r .input) (r .low) (r .high))
   (low : Lawful o s (r .low)) (high : Lawful o s (r .high)) (mask : Union o s (r .low) (r .high) (r .reach)) where
   grows : Grows s t
   grows = added-grows d
+
+  -- the places in use have the values that they had
+  old : (p : ℕ) → p < s .used → (q : ℕ) → value o t (handle p) q ≡ value o s (handle p) q
+  old p l q = value-grows o w (added-grows d) (handle p) q (omega arith)
 
   pub value-new : (q : ℕ) → value o t (handle (s .used)) q ≡ choice o s (r .input) (r .low) (r .high) q
   value-new q =
@@ -140,7 +114,7 @@ module _ {o : Ops} {s t : Store} {r : Record} (w : Well s) (v : Well t) (sound :
       let n = s .inputs in
       let i = r .input in
       let inside = sides .inside in
-      let wide = widen o w (added-grows d) in
+      let wide : (q : ℕ) → q < 2 ^ s .inputs → q < 2 ^ t .inputs = λ q. pattern-moved q (sym (d .inputs)) in
       record {
         reached = λ x e. ⊎-elim
           (λ at.
@@ -159,7 +133,7 @@ module _ {o : Ops} {s t : Store} {r : Record} (w : Well s) (v : Well t) (sound :
             ))
           (mask .reached x e);
         reaches = λ q k.
-          let l = narrow o w (added-grows d) q k in
+          let l = pattern-moved q (d .inputs) k in
           ⊎-elim
           (λ e. ap (up (r .reach)) (value-new q ∙ choice-down o s i (r .low) (r .high) q e) ∙ mask .low-reaches q l)
           (λ e. ap (up (r .reach)) (value-new q ∙ choice-up o s i (r .low) (r .high) q e) ∙ mask .high-reaches q l)
@@ -179,14 +153,14 @@ module _ {o : Ops} {s t : Store} {r : Record} (w : Well s) (v : Well t) (sound :
           (λ e. subst (λ x. Lawful o t (x .high)) (sym (added-at d p e)) (lawful-grows o grows (r .high) high))
           (added-places d p l);
         reached = λ p x l e. ⊎-elim
-          (λ k. occurs-grows o w grows (handle p) x (omega arith) (sound .reached p x k (ap (λ z. up (z .reach) x) (sym (d .same p k)) ∙ e)))
+          (λ k. occurs-moved o s t (handle p) (d .inputs) (old p k) x (sound .reached p x k (ap (λ z. up (z .reach) x) (sym (d .same p k)) ∙ e)))
           (λ j. subst (λ z. Occurs o t (handle z) x) (sym j) (reach-new .reached x (ap (λ z. up (z .reach) x) (sym (added-at d p j)) ∙ e)))
           (added-places d p l);
         reaches = λ p q l k. ⊎-elim
           (λ m.
             ap (λ z. up (z .reach) (value o t (handle p) q)) (d .same p m)
-            ∙ ap (up (s .at p .reach)) (value-grows o w grows (handle p) q (omega arith))
-            ∙ sound .reaches p q m (narrow o w grows q k))
+            ∙ ap (up (s .at p .reach)) (old p m q)
+            ∙ sound .reaches p q m (pattern-moved q (d .inputs) k))
           (λ j.
             ap (λ z. up (z .reach) (value o t (handle p) q)) (added-at d p j)
             ∙ ap (λ z. up (r .reach) (value o t (handle z) q)) j
@@ -194,8 +168,8 @@ module _ {o : Ops} {s t : Store} {r : Record} (w : Well s) (v : Well t) (sound :
           (added-places d p l);
         plain = λ p q l alone f. ⊎-elim
           (λ m.
-            ap (o .plain) (value-grows o w grows (handle p) q (omega arith))
-            ∙ sound .plain p q m (settled-back o w grows (handle p) (omega arith) alone) (first-back o w grows (handle p) q (omega arith) f))
+            ap (o .plain) (old p m q)
+            ∙ sound .plain p q m (settled-moved o t s (handle p) (sym (d .inputs)) (λ r. sym (old p m r)) alone) (first-moved o t s (handle p) (sym (d .inputs)) (λ r. sym (old p m r)) q f))
           (λ j.
             ap (λ z. o .plain (value o t (handle z) q)) j
             ∙ plain q (subst (λ z. Settled-alone o t (handle z)) j alone) (subst (λ z. First-firm o t (handle z) q) j f))

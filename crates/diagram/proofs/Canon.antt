@@ -1,21 +1,19 @@
 -- One number for one signal: two lawful handles that have the same value on every pattern are the same. Assumes nothing.
-use mathlib.Core.Path.{_≡_, refl, sym, ap, _∙_, subst}
-use mathlib.Core.Bool.{Bool, true, false, cond, not}
-use mathlib.Core.Logic.{_⊎_, inl, inr, ⊎-elim}
-use Prim.Native.Nat.{ℕ, zero, suc, _+_, _-_, _*_, _/_, _%_, _^_, _<_, _≤_}
+use mathlib.Core.Path.{_≡_, sym, ap, _∙_, subst}
+use mathlib.Core.Bool.{true, false, cond, not}
+use mathlib.Core.Logic.{⊎-elim}
+use Prim.Native.Nat.{ℕ, zero, suc, _+_, _^_, _<_, _≤_}
 use native.Mathlib.Omega.{arith}
 use lib.Dec.{T}
 use lib.Pow.{pow-pos}
 use Rattle.std.proofs.shelf.Tests.{cases-lt, cases-bool, cases-order, and-parts, both-ways}
 use Rattle.algebra.specs.Ops.{Ops}
 use Rattle.algebra.specs.Laws.{Laws, Firm}
-use Rattle.netlist.specs.Signals.{bit, Agree}
-use Rattle.diagram.specs.declared.record.Record.{Record}
+use Rattle.netlist.specs.Signals.{Agree}
 use Rattle.diagram.specs.Stores.{Store, handle, place, marked, level, side, under-mark, value}
-use Rattle.diagram.specs.Rules.{Placed, Well, Sound, Lawful, settled-mask, firm-mask, Settled-alone, First-firm}
-use Rattle.diagram.specs.Changes.{Within}
+use Rattle.diagram.specs.Rules.{Well, Sound, Lawful, settled-mask, firm-mask, Settled-alone, First-firm}
 use Rattle.diagram.proofs.Bits.{fixed, fixed-after, chosen-below, chosen-bit}
-use Rattle.diagram.proofs.Values.{Agree-from, place-handle, unmarked-handle, marked-handle, level-constant, level-place, level-inside, level-within, side-before, side-deeper, lawful-constant, lawful-place, lawful-within, lawful-marked, handle-lawful, value-constant, value-handle, value-under, under-unmarked, under-marked, ignores, codes}
+use Rattle.diagram.proofs.Values.{unmarked-handle, marked-handle, level-constant, level-place, level-inside, level-within, side-before, side-deeper, lawful-place, lawful-within, lawful-marked, handle-lawful, value-constant, value-handle, value-under, under-unmarked, under-marked, ignores, codes}
 use Rattle.diagram.proofs.Masks.{reach-place, mask-settled, mask-firm, first-firm, firm-turned, firm-unturned, Some-firm}
 
 -- a side has the values of its place where the place's input has the side's bit

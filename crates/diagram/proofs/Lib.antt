@@ -1,5 +1,6 @@
 pub mod Bits
 pub mod Values
+pub mod Moves
 pub mod Masks
 pub mod Canon
 pub mod Negates

@@ -2,8 +2,8 @@
 -- two sides. Assumes nothing.
 use mathlib.Core.Path.{_≡_, refl, sym, ap, _∙_, subst}
 use mathlib.Core.Bool.{Bool, true, false, cond, not, _||_}
-use mathlib.Core.Logic.{_⊎_, inl, inr, ⊎-elim}
-use Prim.Native.Nat.{ℕ, zero, suc, _+_, _-_, _*_, _/_, _%_, _^_, _<_, _≤_}
+use mathlib.Core.Logic.{⊎-elim}
+use Prim.Native.Nat.{ℕ, _+_, _^_, _<_, _≤_}
 use native.Mathlib.Omega.{arith}
 use lib.Dec.{T, ltb, eqb}
 use Rattle.std.proofs.shelf.Tests.{cases-lt, cases-bool, cond-true, cond-false, cond-both, ltb-true, and-parts, and-from, and-cases, or-cases, or-parts, not-true, not-false, both-ways}
@@ -11,13 +11,13 @@ use Rattle.algebra.specs.Ops.{Ops}
 use Rattle.algebra.specs.Laws.{Laws, Firm}
 use Rattle.netlist.specs.Parts.{all-below}
 use Rattle.netlist.specs.Signals.{bit}
-use Rattle.diagram.specs.declared.record.Record.{Record}
-use Rattle.diagram.specs.Stores.{Store, handle, place, marked, level, value, up}
+use Rattle.diagram.specs.Stores.{Store, handle, place, level, value, up}
 use Rattle.diagram.specs.Rules.{Well, Sound, Lawful, settled-code, firm-code, settled-mask, firm-mask, may-mark, Settled-alone, First-firm}
 use Rattle.diagram.specs.Changes.{Within, Grows, Added}
 use Rattle.diagram.specs.Marks.{flipped, negate, turn-mask, reach-of, union, leads-plain, lead, turns, kept-low, kept-high, kept-reach, kept, made-handle, Sides, Made}
 use Rattle.diagram.proofs.Bits.{fixed, chosen-below}
 use Rattle.diagram.proofs.Values.{at-constant, place-handle, place-marked, level-place, place-lawful, handle-lawful, value-marked, codes}
+use Rattle.diagram.proofs.Moves.{pattern-moved}
 use Rattle.diagram.proofs.Masks.{all-at, all-fails, settled-code-settled, firm-code-firm, firm-turned, Some-firm, Reach, settled-is-mask, firm-is-mask}
 use Rattle.diagram.proofs.Negates.{negate-constant, negate-flips, negate-stays, negate-small, negate-large, negate-place, negate-before, negate-level, negate-lawful, negate-value, may-mark-bare, flipped-twice}
 use Rattle.diagram.proofs.Reaches.{up-one, up-union-left, up-union-right, Union, union-right, union-turned}
@@ -200,10 +200,9 @@ module _ {o : Ops} (laws : Laws o) {s : Store} (w : Well s) (sound : Sound o s) 
         let parts = turns-parts o s low high e in
         let f = choice o s i low high in
         let turned : (q : ℕ) → q < 2 ^ s .inputs → value o t (handle p) q ≡ o .turn (f q) = λ q k. values q ∙ kept-turned e q k in
-        let narrow : (q : ℕ) → q < 2 ^ t .inputs → q < 2 ^ s .inputs = λ q. subst (λ n. q < 2 ^ n) (grows .inputs) in
-        let alone : Settled-alone o t (handle p) = λ q k. let l = narrow q k in subst (λ x. T (o .settled x)) (sym (turned q l)) (laws .turn-settled (f q) (choice-code q) (choice-settled (parts .0) q l)) in
+        let alone : Settled-alone o t (handle p) = λ q k. let l = pattern-moved q (grows .inputs) k in subst (λ x. T (o .settled x)) (sym (turned q l)) (laws .turn-settled (f q) (choice-code q) (choice-settled (parts .0) q l)) in
         let at = choice-firm (parts .1) in
-        let some : Some-firm o t (handle p) = (at .0, subst (λ n. at .0 < 2 ^ n) (sym (grows .inputs)) (at .1), subst (Firm o) (sym (turned (at .0) (at .1))) (firm-turned laws (f (at .0)) (choice-code (at .0)) (at .2))) in
+        let some : Some-firm o t (handle p) = (at .0, pattern-moved (at .0) (sym (grows .inputs)) (at .1), subst (Firm o) (sym (turned (at .0) (at .1))) (firm-turned laws (f (at .0)) (choice-code (at .0)) (at .2))) in
         let may = may-mark-bare laws v sound-t p u alone some in
         subst (Made o s t i low high) (sym (cond-true (turns o s low high) (handle p + 1) (handle p) e))
         (record {
@@ -229,8 +228,6 @@ module _ {o : Ops} (laws : Laws o) {s : Store} (w : Well s) (sound : Sound o s) 
       let p = handle (s .used) in
       let m = union o s low high in
       let values : (q : ℕ) → value o t p q ≡ choice o s i (kept-low o s low high) (kept-high o s low high) q = value-new w v sound d k kept-low-lawful kept-high-lawful kept-mask in
-      let narrow : (q : ℕ) → q < 2 ^ t .inputs → q < 2 ^ s .inputs = λ q. subst (λ n. q < 2 ^ n) (d .inputs) in
-      let widen : (q : ℕ) → q < 2 ^ s .inputs → q < 2 ^ t .inputs = λ q. subst (λ n. q < 2 ^ n) (sym (d .inputs)) in
       let plain : (q : ℕ) → Settled-alone o t p → First-firm o t p q → o .plain (value o t p q) ≡ true = λ q alone f.
           let f′ : Leads o (s .inputs) (value o t p) q = subst (λ n. Leads o n (value o t p) q) (d .inputs) (first-leads f) in
           ⊎-elim

@@ -1,17 +1,17 @@
 -- Masks of values against the values that occur, firm values and their NOT, and the first pattern that passes a test.
 -- Assumes nothing.
 use mathlib.Core.Path.{_≡_, refl, sym, ap, _∙_, subst}
-use mathlib.Core.Bool.{Bool, true, false, cond, not, _&&_, _||_}
+use mathlib.Core.Bool.{Bool, true, false, not, _||_}
 use mathlib.Core.Logic.{_⊎_, inl, inr, ⊎-elim}
-use Prim.Native.Nat.{ℕ, zero, suc, _+_, _*_, _/_, _%_, _^_, _<_, _≤_}
+use Prim.Native.Nat.{ℕ, zero, suc, _^_, _<_}
 use native.Mathlib.Omega.{arith}
 use lib.Dec.{T, ltb, eqb}
-use Rattle.std.proofs.shelf.Tests.{lt-ltb, ltb-true, eq-eqb, ne-eqb, eqb-true, eqb-false, cases-lt, cases-bool, and-parts, and-from, and-cases, or-cases, or-parts, or-left, or-right, not-true, not-false, not-from-false, not-from-true, both-ways}
+use Rattle.std.proofs.shelf.Tests.{lt-ltb, ne-eqb, eqb-false, cases-lt, cases-bool, and-parts, and-from, and-cases, or-cases, or-parts, or-left, or-right, not-true, not-false, not-from-false, both-ways}
 use Rattle.algebra.specs.Ops.{Ops}
 use Rattle.algebra.specs.Laws.{Laws, Firm}
 use Rattle.netlist.specs.Parts.{all-below}
 use Rattle.diagram.specs.Stores.{Store, handle, value, up}
-use Rattle.diagram.specs.Rules.{Sound, settled-code, firm-code, settled-mask, firm-mask, may-mark, Occurs, Settled-alone, First-firm}
+use Rattle.diagram.specs.Rules.{Sound, settled-code, firm-code, settled-mask, firm-mask, Occurs, Settled-alone, First-firm}
 
 pub from-true : (b : Bool) → b ≡ true → T b
 from-true b e = subst T (sym e) tt

@@ -1,20 +1,18 @@
 -- NOT of a handle that reaches settled values alone takes no walk. Assumes nothing.
-use mathlib.Core.Path.{_≡_, refl, sym, ap, _∙_, subst}
-use mathlib.Core.Bool.{Bool, true, false, cond, not}
-use mathlib.Core.Logic.{_⊎_, inl, inr, ⊎-elim}
-use Prim.Native.Nat.{ℕ, zero, suc, _+_, _-_, _*_, _/_, _%_, _^_, _<_, _≤_}
+use mathlib.Core.Path.{_≡_, sym, ap, _∙_, subst}
+use mathlib.Core.Bool.{true, false}
+use mathlib.Core.Logic.{⊎-elim}
+use Prim.Native.Nat.{ℕ, _+_, _-_, _^_, _<_, _≤_}
 use native.Mathlib.Omega.{arith}
-use lib.Dec.{T, ltb, eqb}
-use Rattle.std.proofs.shelf.Tests.{cases-lt, cases-bool, cases-eq, cond-true, cond-false, eq-eqb, ne-eqb, eqb-true, eqb-false, and-parts, and-from, both-ways}
+use lib.Dec.{T}
+use Rattle.std.proofs.shelf.Tests.{cases-lt, cases-bool, cases-eq, cond-true, cond-false, and-from, both-ways}
 use Rattle.algebra.specs.Ops.{Ops}
-use Rattle.algebra.specs.Laws.{Laws, Firm}
-use Rattle.netlist.specs.Signals.{Agree}
+use Rattle.algebra.specs.Laws.{Laws}
 use Rattle.diagram.specs.Stores.{Store, handle, place, marked, level, value}
 use Rattle.diagram.specs.Rules.{Well, Sound, Lawful, settled-mask, firm-mask, may-mark, Settled-alone}
-use Rattle.diagram.specs.Changes.{Within, Grows}
 use Rattle.diagram.specs.Marks.{flipped, negate}
-use Rattle.diagram.proofs.Values.{at-constant, at-place, unmarked-handle, marked-handle, handle-unmarked, handle-marked, level-constant, level-place, lawful-constant, lawful-place, lawful-within, lawful-marked, constant-lawful, place-lawful, handle-lawful, value-constant, value-under, value-marked, under-marked, codes}
-use Rattle.diagram.proofs.Masks.{reach-place, mask-settled, settled-is-mask, firm-is-mask, Some-firm}
+use Rattle.diagram.proofs.Values.{at-constant, at-place, unmarked-handle, marked-handle, handle-unmarked, handle-marked, level-constant, level-place, lawful-place, lawful-within, lawful-marked, constant-lawful, place-lawful, handle-lawful, value-constant, value-under, value-marked, under-marked, codes}
+use Rattle.diagram.proofs.Masks.{reach-place, settled-is-mask, firm-is-mask, Some-firm}
 use Rattle.diagram.proofs.Canon.{marked-settled, one-number}
 
 -- the mark changed, the place kept

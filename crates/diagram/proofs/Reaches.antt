@@ -1,14 +1,14 @@
 -- The reach of a handle says which values it has. Assumes nothing.
-use mathlib.Core.Path.{_≡_, refl, sym, ap, _∙_, subst}
-use mathlib.Core.Bool.{Bool, true, false, cond, not, _||_}
+use mathlib.Core.Path.{_≡_, sym, ap, _∙_, subst}
+use mathlib.Core.Bool.{true, false, _||_}
 use mathlib.Core.Logic.{_⊎_, inl, inr, ⊎-elim}
-use Prim.Native.Nat.{ℕ, zero, suc, _+_, _-_, _*_, _/_, _%_, _^_, _<_, _≤_}
+use Prim.Native.Nat.{ℕ, zero, suc, _+_, _-_, _*_, _/_, _%_, _^_, _<_}
 use native.Mathlib.Omega.{arith}
 use native.Mathlib.Nat.{zero-div, div-eq-of-lt, div-self}
 use lib.Bits.{bitOr, or-shr, or-mod}
-use lib.Dec.{T, ltb, eqb}
+use lib.Dec.{eqb}
 use lib.Pow.{pow-pos, pow-lt, pow-add, shl-shr}
-use Rattle.std.proofs.shelf.Tests.{cases-lt, cases-bool, cases-order, cond-true, cond-false, eq-eqb, ne-eqb, eqb-true, or-cases, or-left, or-right, both-ways}
+use Rattle.std.proofs.shelf.Tests.{cases-lt, cases-bool, cases-order, cond-true, cond-false, eqb-true, or-cases, or-left, or-right, both-ways}
 use Rattle.algebra.specs.Ops.{Ops}
 use Rattle.algebra.specs.Laws.{Laws}
 use Rattle.diagram.specs.Stores.{Store, handle, place, marked, value, up}

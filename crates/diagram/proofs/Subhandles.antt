@@ -1,7 +1,7 @@
 -- Each part of the signal of a lawful handle has a lawful handle in the same table. Assumes nothing.
-use mathlib.Core.Path.{_≡_, refl, sym, ap, _∙_, subst}
-use mathlib.Core.Logic.{_⊎_, inl, inr, ⊎-elim}
-use Prim.Native.Nat.{ℕ, zero, suc, _+_, _-_, _*_, _/_, _%_, _^_, _<_, _≤_}
+use mathlib.Core.Path.{_≡_, sym, ap, _∙_, subst}
+use mathlib.Core.Logic.{⊎-elim}
+use Prim.Native.Nat.{ℕ, zero, suc, _+_, _/_, _%_, _^_, _<_, _≤_}
 use native.Mathlib.Omega.{arith}
 use lib.Pow.{pow-add}
 use Rattle.std.proofs.shelf.Tests.{cases-lt}
@@ -9,7 +9,7 @@ use Rattle.algebra.specs.Ops.{Ops}
 use Rattle.algebra.specs.Laws.{Laws}
 use Rattle.netlist.specs.Signals.{bit, Agree}
 use Rattle.netlist.specs.Parts.{part}
-use Rattle.diagram.specs.Stores.{Store, handle, place, level, value}
+use Rattle.diagram.specs.Stores.{Store, level, value}
 use Rattle.diagram.specs.Rules.{Well, Sound, Lawful}
 use Rattle.diagram.specs.Marks.{cofactor}
 use Rattle.diagram.proofs.Bits.{fixed, fixed-below, fixed-after, fixed-last, fixed-none, fixed-fixed}

@@ -1,18 +1,18 @@
 -- The laws of level, value and lawful handles, by which alone the other proofs know them. Assumes nothing.
-use mathlib.Core.Path.{_≡_, refl, sym, ap, _∙_, subst}
-use mathlib.Core.Bool.{Bool, true, false, cond, not, _&&_, _||_}
-use mathlib.Core.Logic.{_⊎_, inl, inr, ⊎-elim}
-use Prim.Native.Nat.{ℕ, zero, suc, _+_, _-_, _*_, _/_, _%_, _^_, _<_, _≤_}
+use mathlib.Core.Path.{_≡_, refl, sym, ap, _∙_}
+use mathlib.Core.Bool.{true, false, cond, not, _||_}
+use mathlib.Core.Logic.{⊎-elim}
+use Prim.Native.Nat.{ℕ, zero, suc, _+_, _-_, _%_, _<_, _≤_}
 use native.Mathlib.Omega.{arith}
-use lib.Dec.{T, ltb, eqb}
+use lib.Dec.{ltb, eqb}
 use Rattle.std.proofs.shelf.Tests.{lt-ltb, le-ltb, ltb-true, eq-eqb, ne-eqb, eqb-true, cond-true, cond-false, cond-both, cases-lt, cases-bool, and-parts, and-from, or-cases, or-left, or-right, not-true, not-from-false, both-ways}
 use Rattle.algebra.specs.Ops.{Ops}
 use Rattle.algebra.specs.Laws.{Laws}
 use Rattle.netlist.specs.Signals.{bit}
 use Rattle.diagram.specs.declared.record.Record.{Record}
 use Rattle.diagram.specs.Stores.{Store, handle, place, marked, level, side, under-mark, descend, value}
-use Rattle.diagram.specs.Rules.{Placed, Well, Sound, lawful, Lawful, may-mark}
-use Rattle.diagram.specs.Changes.{Within, Grows, Added}
+use Rattle.diagram.specs.Rules.{Well, Sound, Lawful, may-mark}
+use Rattle.diagram.specs.Changes.{Within, Grows}
 
 -- a cond on a test of a handle
 pub at-constant : {X : Type 0} (h : ℕ) (x y : X) → h < 16 → cond (ltb h 16) x y ≡ x

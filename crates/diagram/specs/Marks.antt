@@ -1,15 +1,15 @@
 -- NOT of handles, the reach of a handle, and the record that is kept for an input and two sides. Assumes nothing.
 use mathlib.Core.Path.{_≡_}
-use mathlib.Core.Bool.{Bool, true, false, cond, not, _&&_}
-use Prim.Native.Nat.{ℕ, zero, suc, _+_, _-_, _^_, _<_, _≤_}
+use mathlib.Core.Bool.{Bool, cond, not, _&&_}
+use Prim.Native.Nat.{ℕ, zero, suc, _+_, _-_, _^_, _<_}
 use lib.Bits.{bitOr}
 use lib.Dec.{eqb, ltb}
 use Rattle.algebra.specs.Ops.{Ops}
 use Rattle.netlist.specs.Signals.{bit}
 use Rattle.diagram.specs.declared.record.Record.{Record}
 use Rattle.diagram.specs.Stores.{Store, handle, place, marked, level, side, value, up}
-use Rattle.diagram.specs.Rules.{Well, Sound, Lawful, firm-mask, may-mark}
-use Rattle.diagram.specs.Changes.{Within, Grows}
+use Rattle.diagram.specs.Rules.{Sound, Lawful, firm-mask, may-mark}
+use Rattle.diagram.specs.Changes.{Within}
 
 -- the mark changed
 abbrev pub flipped : ℕ → ℕ
