@@ -45,22 +45,22 @@ well-added {s} {t} {r} w sides absent d =
     record {
       few = omega (arith, d .inputs, w .few);
       placed = λ p l. ⊎-elim
-        (λ k. subst (Placed t p) (sym (d .same p k)) (moved p (omega arith) (w .placed p k)))
-        (λ e. subst (Placed t p) (sym (added-at d p e)) (moved p (omega arith) (subst (λ x. Placed s x r) (sym e) here)))
-        (added-places d p l);
+          (λ k. subst (Placed t p) (sym (d .same p k)) (moved p (omega arith) (w .placed p k)))
+          (λ e. subst (Placed t p) (sym (added-at d p e)) (moved p (omega arith) (subst (λ x. Placed s x r) (sym e) here)))
+          (added-places d p l);
       apart = λ p q k l i x y. ⊎-elim
-        (λ m. ⊎-elim
+          (λ m. ⊎-elim
           (λ n.
-            let a = sym (d .same p m) in
-            let b = d .same q n in
-            w .apart p q m n (ap (λ z. z .input) a ∙ i ∙ ap (λ z. z .input) b) (ap (λ z. z .low) a ∙ x ∙ ap (λ z. z .low) b) (ap (λ z. z .high) a ∙ y ∙ ap (λ z. z .high) b))
+          let a = sym (d .same p m) in
+          let b = d .same q n in
+          w .apart p q m n (ap (λ z. z .input) a ∙ i ∙ ap (λ z. z .input) b) (ap (λ z. z .low) a ∙ x ∙ ap (λ z. z .low) b) (ap (λ z. z .high) a ∙ y ∙ ap (λ z. z .high) b))
           (λ n. absurd (clash p q m n i x y))
           (added-places d q l))
-        (λ m. ⊎-elim
+          (λ m. ⊎-elim
           (λ n. absurd (clash q p n m (sym i) (sym x) (sym y)))
           (λ n. m ∙ sym n)
           (added-places d q l))
-        (added-places d p k);
+          (added-places d p k);
     }
   where
     moved : {x : Record} (p : ℕ) → p ≤ s .used → Placed s p x → Placed t p x
@@ -84,7 +84,7 @@ well-added {s} {t} {r} w sides absent d =
 
 -- a place that holds an input and two sides has the values of its sides
 pub value-at : (o : Ops) {s t : Store} (w : Well s) (v : Well t) (grows : Grows s t) (i low high p q : ℕ) → p < t .used → Within s low → Within s high
-  → t .at p .input ≡ i → t .at p .low ≡ low → t .at p .high ≡ high → value o t (handle p) q ≡ choice o s i low high q
+    → t .at p .input ≡ i → t .at p .low ≡ low → t .at p .high ≡ high → value o t (handle p) q ≡ choice o s i low high q
 value-at o {s} {t} w v grows i low high p q u a b ei el eh =
     let c = eqb (bit (s .inputs) q i) 1 in
     value-handle o v p q u
@@ -96,7 +96,7 @@ value-at o {s} {t} w v grows i low high p q u a b ei el eh =
 
 -- the rules stand if the new record's sides are lawful, its reach is right and its first firm value is plain
 module _ {o : Ops} {s t : Store} {r : Record} (w : Well s) (v : Well t) (sound : Sound o s) (d : Added s t r) (sides : Sides s (r .input) (r .low) (r .high))
-  (low : Lawful o s (r .low)) (high : Lawful o s (r .high)) (mask : Union o s (r .low) (r .high) (r .reach)) where
+    (low : Lawful o s (r .low)) (high : Lawful o s (r .high)) (mask : Union o s (r .low) (r .high) (r .reach)) where
   grows : Grows s t
   grows = added-grows d
 
@@ -117,27 +117,25 @@ module _ {o : Ops} {s t : Store} {r : Record} (w : Well s) (v : Well t) (sound :
       let wide : (q : ℕ) → q < 2 ^ s .inputs → q < 2 ^ t .inputs = λ q. pattern-moved q (sym (d .inputs)) in
       record {
         reached = λ x e. ⊎-elim
-          (λ at.
-            let q = fixed n (i + 1) 0 (at .0) in
-            (
+            (λ at.
+            let q = fixed n (i + 1) 0 (at .0) in (
               q,
               wide q (chosen-below n i 0 (at .0) inside (omega arith)),
-              value-new q ∙ choice-low o w i (r .low) (r .high) (at .0) inside (sides .low-within) (sides .low-deeper) ∙ at .2
+              value-new q ∙ choice-low o w i (r .low) (r .high) (at .0) inside (sides .low-within) (sides .low-deeper) ∙ at .2,
             ))
-          (λ at.
-            let q = fixed n (i + 1) 1 (at .0) in
-            (
+            (λ at.
+            let q = fixed n (i + 1) 1 (at .0) in (
               q,
               wide q (chosen-below n i 1 (at .0) inside (omega arith)),
-              value-new q ∙ choice-high o w i (r .low) (r .high) (at .0) inside (sides .high-within) (sides .high-deeper) ∙ at .2
+              value-new q ∙ choice-high o w i (r .low) (r .high) (at .0) inside (sides .high-within) (sides .high-deeper) ∙ at .2,
             ))
-          (mask .reached x e);
+            (mask .reached x e);
         reaches = λ q k.
-          let l = pattern-moved q (d .inputs) k in
-          ⊎-elim
-          (λ e. ap (up (r .reach)) (value-new q ∙ choice-down o s i (r .low) (r .high) q e) ∙ mask .low-reaches q l)
-          (λ e. ap (up (r .reach)) (value-new q ∙ choice-up o s i (r .low) (r .high) q e) ∙ mask .high-reaches q l)
-          (bit-cases n q i);
+            let l = pattern-moved q (d .inputs) k in
+            ⊎-elim
+            (λ e. ap (up (r .reach)) (value-new q ∙ choice-down o s i (r .low) (r .high) q e) ∙ mask .low-reaches q l)
+            (λ e. ap (up (r .reach)) (value-new q ∙ choice-up o s i (r .low) (r .high) q e) ∙ mask .high-reaches q l)
+            (bit-cases n q i);
       }
 
   pub sound-added : ((q : ℕ) → Settled-alone o t (handle (s .used)) → First-firm o t (handle (s .used)) q → o .plain (value o t (handle (s .used)) q) ≡ true) → Sound o t
@@ -145,33 +143,33 @@ module _ {o : Ops} {s t : Store} {r : Record} (w : Well s) (v : Well t) (sound :
   sound-added plain =
       record {
         low = λ p l. ⊎-elim
-          (λ k. subst (λ x. Lawful o t (x .low)) (sym (d .same p k)) (lawful-grows o grows (s .at p .low) (sound .low p k)))
-          (λ e. subst (λ x. Lawful o t (x .low)) (sym (added-at d p e)) (lawful-grows o grows (r .low) low))
-          (added-places d p l);
+            (λ k. subst (λ x. Lawful o t (x .low)) (sym (d .same p k)) (lawful-grows o grows (s .at p .low) (sound .low p k)))
+            (λ e. subst (λ x. Lawful o t (x .low)) (sym (added-at d p e)) (lawful-grows o grows (r .low) low))
+            (added-places d p l);
         high = λ p l. ⊎-elim
-          (λ k. subst (λ x. Lawful o t (x .high)) (sym (d .same p k)) (lawful-grows o grows (s .at p .high) (sound .high p k)))
-          (λ e. subst (λ x. Lawful o t (x .high)) (sym (added-at d p e)) (lawful-grows o grows (r .high) high))
-          (added-places d p l);
+            (λ k. subst (λ x. Lawful o t (x .high)) (sym (d .same p k)) (lawful-grows o grows (s .at p .high) (sound .high p k)))
+            (λ e. subst (λ x. Lawful o t (x .high)) (sym (added-at d p e)) (lawful-grows o grows (r .high) high))
+            (added-places d p l);
         reached = λ p x l e. ⊎-elim
-          (λ k. occurs-moved o s t (handle p) (d .inputs) (old p k) x (sound .reached p x k (ap (λ z. up (z .reach) x) (sym (d .same p k)) ∙ e)))
-          (λ j. subst (λ z. Occurs o t (handle z) x) (sym j) (reach-new .reached x (ap (λ z. up (z .reach) x) (sym (added-at d p j)) ∙ e)))
-          (added-places d p l);
+            (λ k. occurs-moved o s t (handle p) (d .inputs) (old p k) x (sound .reached p x k (ap (λ z. up (z .reach) x) (sym (d .same p k)) ∙ e)))
+            (λ j. subst (λ z. Occurs o t (handle z) x) (sym j) (reach-new .reached x (ap (λ z. up (z .reach) x) (sym (added-at d p j)) ∙ e)))
+            (added-places d p l);
         reaches = λ p q l k. ⊎-elim
-          (λ m.
+            (λ m.
             ap (λ z. up (z .reach) (value o t (handle p) q)) (d .same p m)
             ∙ ap (up (s .at p .reach)) (old p m q)
             ∙ sound .reaches p q m (pattern-moved q (d .inputs) k))
-          (λ j.
+            (λ j.
             ap (λ z. up (z .reach) (value o t (handle p) q)) (added-at d p j)
             ∙ ap (λ z. up (r .reach) (value o t (handle z) q)) j
             ∙ reach-new .reaches q k)
-          (added-places d p l);
+            (added-places d p l);
         plain = λ p q l alone f. ⊎-elim
-          (λ m.
+            (λ m.
             ap (o .plain) (old p m q)
             ∙ sound .plain p q m (settled-moved o t s (handle p) (sym (d .inputs)) (λ r. sym (old p m r)) alone) (first-moved o t s (handle p) (sym (d .inputs)) (λ r. sym (old p m r)) q f))
-          (λ j.
+            (λ j.
             ap (λ z. o .plain (value o t (handle z) q)) j
             ∙ plain q (subst (λ z. Settled-alone o t (handle z)) j alone) (subst (λ z. First-firm o t (handle z) q) j f))
-          (added-places d p l);
+            (added-places d p l);
       }

@@ -28,8 +28,8 @@ lawful-back o {s} {t} grows h u l =
     ⊎-elim
     (λ c. constant-lawful o s h c (lawful-constant o t h l c))
     (λ g.
-      let v : place h < s .used = omega arith in
-      place-lawful o s h g v (λ m. ap (λ r. may-mark o (r .reach)) (sym (grows .same (place h) v)) ∙ lawful-marked o t h l g m))
+    let v : place h < s .used = omega arith in
+    place-lawful o s h g v (λ m. ap (λ r. may-mark o (r .reach)) (sym (grows .same (place h) v)) ∙ lawful-marked o t h l g m))
     (cases-lt h 16)
 
 pub sound-back : {o : Ops} {s t : Store} → Grows s t → Well t → Sound o t → Sound o s
@@ -51,8 +51,8 @@ sound-back {o} {s} {t} grows v sound =
       plain = λ p q l alone f.
           ap (o .plain) (sym (same p l q))
           ∙ sound .plain p q (in-t p l)
-            (settled-moved o s t (handle p) (grows .inputs) (same p l) alone)
-            (first-moved o s t (handle p) (grows .inputs) (same p l) q f);
+          (settled-moved o s t (handle p) (grows .inputs) (same p l) alone)
+          (first-moved o s t (handle p) (grows .inputs) (same p l) q f);
     }
   where
     w : Well s

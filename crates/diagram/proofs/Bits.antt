@@ -151,16 +151,16 @@ pub with-bit-other : (n p i b j : ℕ) → i < n → j < n → b < 2 → (j ≡ 
 with-bit-other n p i b j l m s ne =
     ⊎-elim
     (λ h.
-      let a = p / 2 ^ (n - i) * 2 + b in
-      let e : i + 1 - 1 - j ≡ (i - j - 1) + 1 = omega arith in
-      let d : (i - j - 1) + 1 - 1 ≡ i - j - 1 = omega arith in
-      let c : (n - i) + (i - j - 1) ≡ n - 1 - j = omega arith in
-      fixed-before n (i + 1) a p j (omega arith) (omega arith)
-      ∙ ap (λ x. (a / 2 ^ x) % 2) e
-      ∙ ap (λ x. x % 2) (shifted-high (p / 2 ^ (n - i)) b ((i - j - 1) + 1) 1 (omega arith) s)
-      ∙ ap (λ x. (p / 2 ^ (n - i) / 2 ^ x) % 2) d
-      ∙ ap (λ x. x % 2) (shr-shr p (n - i) (i - j - 1))
-      ∙ ap (λ x. (p / 2 ^ x) % 2) c)
+    let a = p / 2 ^ (n - i) * 2 + b in
+    let e : i + 1 - 1 - j ≡ (i - j - 1) + 1 = omega arith in
+    let d : (i - j - 1) + 1 - 1 ≡ i - j - 1 = omega arith in
+    let c : (n - i) + (i - j - 1) ≡ n - 1 - j = omega arith in
+    fixed-before n (i + 1) a p j (omega arith) (omega arith)
+    ∙ ap (λ x. (a / 2 ^ x) % 2) e
+    ∙ ap (λ x. x % 2) (shifted-high (p / 2 ^ (n - i)) b ((i - j - 1) + 1) 1 (omega arith) s)
+    ∙ ap (λ x. (p / 2 ^ (n - i) / 2 ^ x) % 2) d
+    ∙ ap (λ x. x % 2) (shr-shr p (n - i) (i - j - 1))
+    ∙ ap (λ x. (p / 2 ^ x) % 2) c)
     (λ h. fixed-after n (i + 1) (p / 2 ^ (n - i) * 2 + b) p j (omega arith) m)
     (cases-lt j i)
 

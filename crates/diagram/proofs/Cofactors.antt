@@ -55,17 +55,17 @@ module _ {o : Ops} (laws : Laws o) {s : Store} (w : Well s) (sound : Sound o s) 
       let here : value o s h (x p) ≡ value o s h (fixed n (level s h + 1) b p) = ap (λ j. value o s h (fixed n (j + 1) b p)) (sym (level-place s h g)) in
       ⊎-elim
       (λ e.
-        let settled : Settled-alone o s k = λ r d. subst (λ v. T (o .settled v)) (sym (side-value o w q b r u c)) (marked-settled laws w sound h l g e (x r) (chosen-below n i b r inside c)) in
-        ap (λ y. value o s y p) (cond-true (marked h) (negate o s k) k e)
-        ∙ negate-value laws w sound k p k-lawful settled m
-        ∙ ap (o .turn) (side-value o w q b p u c)
-        ∙ sym (value-under o w h (x p) g (lawful-within o s h l) ∙ under-marked o h (value o s (handle q) (x p)) e)
-        ∙ here)
+      let settled : Settled-alone o s k = λ r d. subst (λ v. T (o .settled v)) (sym (side-value o w q b r u c)) (marked-settled laws w sound h l g e (x r) (chosen-below n i b r inside c)) in
+      ap (λ y. value o s y p) (cond-true (marked h) (negate o s k) k e)
+      ∙ negate-value laws w sound k p k-lawful settled m
+      ∙ ap (o .turn) (side-value o w q b p u c)
+      ∙ sym (value-under o w h (x p) g (lawful-within o s h l) ∙ under-marked o h (value o s (handle q) (x p)) e)
+      ∙ here)
       (λ e.
-        ap (λ y. value o s y p) (cond-false (marked h) (negate o s k) k e)
-        ∙ side-value o w q b p u c
-        ∙ ap (λ y. value o s y (x p)) (sym (unmarked-handle h g e))
-        ∙ here)
+      ap (λ y. value o s y p) (cond-false (marked h) (negate o s k) k e)
+      ∙ side-value o w q b p u c
+      ∙ ap (λ y. value o s y (x p)) (sym (unmarked-handle h g e))
+      ∙ here)
       (cases-bool (marked h))
 
   pub cofactor-means : (p : ℕ) → p < 2 ^ s .inputs → bit (s .inputs) p (level s h) ≡ b → value o s (cofactor o s h b) p ≡ value o s h p
@@ -77,7 +77,7 @@ module _ {o : Ops} (laws : Laws o) {s : Store} (w : Well s) (sound : Sound o s) 
       let c : b < 2 = omega arith in
       cofactor-value p c m
       ∙ ignores o w h (fixed n (i + 1) b p) p (lawful-within o s h l)
-        (λ j k t. ⊎-elim
-          (λ later. fixed-after n (i + 1) b p j (omega arith) t)
-          (λ now. let same : j ≡ i = omega arith in ap (bit n (fixed n (i + 1) b p)) same ∙ chosen-bit n i b p (omega arith) c ∙ sym e ∙ ap (bit n p) (sym same))
-          (cases-lt i j))
+      (λ j k t. ⊎-elim
+      (λ later. fixed-after n (i + 1) b p j (omega arith) t)
+      (λ now. let same : j ≡ i = omega arith in ap (bit n (fixed n (i + 1) b p)) same ∙ chosen-bit n i b p (omega arith) c ∙ sym e ∙ ap (bit n p) (sym same))
+      (cases-lt i j))

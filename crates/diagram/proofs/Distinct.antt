@@ -23,11 +23,11 @@ module _ {o : Ops} (laws : Laws o) {s : Store} (w : Well s) (sound : Sound o s) 
       omega arith
 
   pub places-opposite : (p q : ℕ) → p < s .used → q < s .used → Settled-alone o s (handle q)
-    → Agree (s .inputs) (value o s (handle p)) (turned o (value o s (handle q))) → p ≡ q
+      → Agree (s .inputs) (value o s (handle p)) (turned o (value o s (handle q))) → p ≡ q
   places-opposite p q u v alone same =
       let lawful = handle-lawful o s q v in
       let e = one-number laws w sound (handle p) (negate o s (handle q)) (handle-lawful o s p u) (negate-lawful laws w sound (handle q) lawful)
-          (λ r k. same r k ∙ sym (negate-value laws w sound (handle q) r lawful alone k)) in
+      (λ r k. same r k ∙ sym (negate-value laws w sound (handle q) r lawful alone k)) in
       sym (place-handle p) ∙ ap place e ∙ negate-place laws s (handle q) (omega arith) ∙ place-handle q
 
   pub place-varies : (p v : ℕ) → p < s .used → Agree (s .inputs) (value o s (handle p)) (constant v) → ⊥
@@ -40,8 +40,8 @@ module _ {o : Ops} (laws : Laws o) {s : Store} (w : Well s) (sound : Sound o s) 
 
   -- what a lawful handle can be
   pub lawful-cases : (h : ℕ) → Lawful o s h
-    → (h < o .count)
-    ⊎ ((p : ℕ) × (p < s .used)
+      → (h < o .count)
+      ⊎ ((p : ℕ) × (p < s .used)
       × (Agree (s .inputs) (value o s h) (value o s (handle p)) ⊎ (Settled-alone o s (handle p) × Agree (s .inputs) (value o s h) (turned o (value o s (handle p))))))
   lawful-cases h l =
       ⊎-elim
@@ -50,8 +50,8 @@ module _ {o : Ops} (laws : Laws o) {s : Store} (w : Well s) (sound : Sound o s) 
         place h,
         lawful-place o s h l g,
         ⊎-elim
-        (λ e. inr (marked-settled laws w sound h l g e, λ q k. value-under o w h q g (lawful-within o s h l) ∙ under-marked o h _ e))
-        (λ e. inl (λ q k. ap (λ x. value o s x q) (unmarked-handle h g e)))
-        (cases-bool (marked h))
+            (λ e. inr (marked-settled laws w sound h l g e, λ q k. value-under o w h q g (lawful-within o s h l) ∙ under-marked o h _ e))
+            (λ e. inl (λ q k. ap (λ x. value o s x q) (unmarked-handle h g e)))
+            (cases-bool (marked h)),
       ))
       (cases-lt h 16)

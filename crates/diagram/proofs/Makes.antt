@@ -44,22 +44,22 @@ negate-differ {o} laws s low high settled differ e =
     let b = reach-of o s high in
     ⊎-elim
     (λ c. ⊎-elim
-      (λ d. differ (turn-injective laws low high
-        (mask-code o (union o s low high) low settled c (up-union-left a b low (ap (λ z. up z low) (at-constant low (2 ^ low) _ c) ∙ up-one low)))
-        (mask-code o (union o s low high) high settled d (up-union-right a b high (ap (λ z. up z high) (at-constant high (2 ^ high) _ d) ∙ up-one high)))
-        (sym (negate-constant o s low c) ∙ e ∙ negate-constant o s high d)))
-      (λ d. omega (arith, negate-small laws s low c, negate-large laws s high d))
-      (cases-lt high 16))
+    (λ d. differ (turn-injective laws low high
+    (mask-code o (union o s low high) low settled c (up-union-left a b low (ap (λ z. up z low) (at-constant low (2 ^ low) _ c) ∙ up-one low)))
+    (mask-code o (union o s low high) high settled d (up-union-right a b high (ap (λ z. up z high) (at-constant high (2 ^ high) _ d) ∙ up-one high)))
+    (sym (negate-constant o s low c) ∙ e ∙ negate-constant o s high d)))
+    (λ d. omega (arith, negate-small laws s low c, negate-large laws s high d))
+    (cases-lt high 16))
     (λ c. ⊎-elim
-      (λ d. omega (arith, negate-large laws s low c, negate-small laws s high d))
-      (λ d.
-        let same : place low ≡ place high = sym (negate-place laws s low c) ∙ ap place e ∙ negate-place laws s high d in
-        let test = ap (λ p. may-mark o (s .at p .reach)) same in
-        ⊎-elim
-        (λ t. differ (sym (flipped-twice low c) ∙ ap flipped (sym (negate-flips o s low c t) ∙ e ∙ negate-flips o s high d (sym test ∙ t)) ∙ flipped-twice high d))
-        (λ t. differ (sym (negate-stays o s low c t) ∙ e ∙ negate-stays o s high d (sym test ∙ t)))
-        (cases-bool (may-mark o (s .at (place low) .reach))))
-      (cases-lt high 16))
+    (λ d. omega (arith, negate-large laws s low c, negate-small laws s high d))
+    (λ d.
+    let same : place low ≡ place high = sym (negate-place laws s low c) ∙ ap place e ∙ negate-place laws s high d in
+    let test = ap (λ p. may-mark o (s .at p .reach)) same in
+    ⊎-elim
+    (λ t. differ (sym (flipped-twice low c) ∙ ap flipped (sym (negate-flips o s low c t) ∙ e ∙ negate-flips o s high d (sym test ∙ t)) ∙ flipped-twice high d))
+    (λ t. differ (sym (negate-stays o s low c t) ∙ e ∙ negate-stays o s high d (sym test ∙ t)))
+    (cases-bool (may-mark o (s .at (place low) .reach))))
+    (cases-lt high 16))
     (cases-lt low 16)
 
 -- what it means that a record is kept under NOT
@@ -74,19 +74,19 @@ pub kept-sides : {o : Ops} → Laws o → {s : Store} {i low high : ℕ} → Sid
 kept-sides {o} laws {s} {i} {low} {high} sides =
     ⊎-elim
     (λ e. subst (λ b. Sides s i (cond b (negate o s low) low) (cond b (negate o s high) high)) (sym e)
-      (record {
-        inside = sides .inside;
-        low-within = negate-before laws s low (s .used) (sides .low-within);
-        high-within = negate-before laws s high (s .used) (sides .high-within);
-        low-deeper = omega (arith, negate-level laws s low, sides .low-deeper);
-        high-deeper = omega (arith, negate-level laws s high, sides .high-deeper);
-        differ = negate-differ laws s low high (turns-parts o s low high e .0) (sides .differ);
-      }))
+    (record {
+      inside = sides .inside;
+      low-within = negate-before laws s low (s .used) (sides .low-within);
+      high-within = negate-before laws s high (s .used) (sides .high-within);
+      low-deeper = omega (arith, negate-level laws s low, sides .low-deeper);
+      high-deeper = omega (arith, negate-level laws s high, sides .high-deeper);
+      differ = negate-differ laws s low high (turns-parts o s low high e .0) (sides .differ);
+    }))
     (λ e. subst (λ b. Sides s i (cond b (negate o s low) low) (cond b (negate o s high) high)) (sym e) sides)
     (cases-bool (turns o s low high))
 
 pub well-made : {o : Ops} → Laws o → {s t : Store} (w : Well s) {i low high : ℕ} → Sides s i low high → Absent s i (kept-low o s low high) (kept-high o s low high)
-  → Added s t (kept o s i low high) → Well t
+    → Added s t (kept o s i low high) → Well t
 well-made laws w sides absent d = well-added w (kept-sides laws sides) absent d
 
 made-place : (o : Ops) (s : Store) (low high p : ℕ) → (16 ≤ made-handle o s low high p) × (made-handle o s low high p ≤ handle p + 1) × (place (made-handle o s low high p) ≡ p)
@@ -151,10 +151,16 @@ module _ {o : Ops} (laws : Laws o) {s : Store} (w : Well s) (sound : Sound o s) 
       let firm = firm-code-firm o v (not-false (firm-code o v) (parts .1)) in
       let inside = sides .inside in
       ⊎-elim
-      (λ at. (fixed n (i + 1) 0 (at .0), chosen-below n i 0 (at .0) inside (omega arith),
-        subst (Firm o) (sym (choice-low o w i low high (at .0) inside (sides .low-within) (sides .low-deeper) ∙ at .2)) firm))
-      (λ at. (fixed n (i + 1) 1 (at .0), chosen-below n i 1 (at .0) inside (omega arith),
-        subst (Firm o) (sym (choice-high o w i low high (at .0) inside (sides .high-within) (sides .high-deeper) ∙ at .2)) firm))
+      (λ at. (
+        fixed n (i + 1) 0 (at .0),
+        chosen-below n i 0 (at .0) inside (omega arith),
+        subst (Firm o) (sym (choice-low o w i low high (at .0) inside (sides .low-within) (sides .low-deeper) ∙ at .2)) firm,
+      ))
+      (λ at. (
+        fixed n (i + 1) 1 (at .0),
+        chosen-below n i 1 (at .0) inside (omega arith),
+        subst (Firm o) (sym (choice-high o w i low high (at .0) inside (sides .high-within) (sides .high-deeper) ∙ at .2)) firm,
+      ))
       (mask .reached v (not-false (up m v) (parts .0)))
 
   -- under NOT the record has the NOT of the choice, and else the choice
@@ -163,9 +169,9 @@ module _ {o : Ops} (laws : Laws o) {s : Store} (w : Well s) (sound : Sound o s) 
       let settled = turns-parts o s low high e .0 in
       ap (λ b. choice o s i (cond b (negate o s low) low) (cond b (negate o s high) high) q) e
       ∙ ⊎-elim
-        (λ d. choice-down o s i (negate o s low) (negate o s high) q d ∙ negate-value laws w sound low q low-lawful (low-settled settled) k ∙ ap (o .turn) (sym (choice-down o s i low high q d)))
-        (λ d. choice-up o s i (negate o s low) (negate o s high) q d ∙ negate-value laws w sound high q high-lawful (high-settled settled) k ∙ ap (o .turn) (sym (choice-up o s i low high q d)))
-        (bit-cases (s .inputs) q i)
+      (λ d. choice-down o s i (negate o s low) (negate o s high) q d ∙ negate-value laws w sound low q low-lawful (low-settled settled) k ∙ ap (o .turn) (sym (choice-down o s i low high q d)))
+      (λ d. choice-up o s i (negate o s low) (negate o s high) q d ∙ negate-value laws w sound high q high-lawful (high-settled settled) k ∙ ap (o .turn) (sym (choice-up o s i low high q d)))
+      (bit-cases (s .inputs) q i)
 
   kept-same : turns o s low high ≡ false → (q : ℕ) → choice o s i (kept-low o s low high) (kept-high o s low high) q ≡ choice o s i low high q
   kept-same e q = ap (λ b. choice o s i (cond b (negate o s low) low) (cond b (negate o s high) high) q) e
@@ -182,37 +188,37 @@ module _ {o : Ops} (laws : Laws o) {s : Store} (w : Well s) (sound : Sound o s) 
       let P : Bool → Type 0 = λ b. Union o s (cond b (negate o s low) low) (cond b (negate o s high) high) (cond b (turn-mask o m) m) in
       ⊎-elim
       (λ e.
-        let settled = turns-parts o s low high e .0 in
-        subst P (sym e)
-        (union-turned laws s low high (negate o s low) (negate o s high) m few-low few-high
-          (λ q k. negate-value laws w sound low q low-lawful (low-settled settled) k)
-          (λ q k. negate-value laws w sound high q high-lawful (high-settled settled) k)
-          mask))
+      let settled = turns-parts o s low high e .0 in
+      subst P (sym e)
+      (union-turned laws s low high (negate o s low) (negate o s high) m few-low few-high
+      (λ q k. negate-value laws w sound low q low-lawful (low-settled settled) k)
+      (λ q k. negate-value laws w sound high q high-lawful (high-settled settled) k)
+      mask))
       (λ e. subst P (sym e) mask)
       (cases-bool (turns o s low high))
 
   -- a place of a sound table that has the values of the kept record: its handle, marked where that is kept under NOT
   made-at : {t : Store} (v : Well t) → Sound o t → Grows s t → (p : ℕ) → p < t .used
-    → ((q : ℕ) → value o t (handle p) q ≡ choice o s i (kept-low o s low high) (kept-high o s low high) q) → Made o s t i low high (made-handle o s low high p)
+      → ((q : ℕ) → value o t (handle p) q ≡ choice o s i (kept-low o s low high) (kept-high o s low high) q) → Made o s t i low high (made-handle o s low high p)
   made-at {t} v sound-t grows p u values =
       ⊎-elim
       (λ e.
-        let parts = turns-parts o s low high e in
-        let f = choice o s i low high in
-        let turned : (q : ℕ) → q < 2 ^ s .inputs → value o t (handle p) q ≡ o .turn (f q) = λ q k. values q ∙ kept-turned e q k in
-        let alone : Settled-alone o t (handle p) = λ q k. let l = pattern-moved q (grows .inputs) k in subst (λ x. T (o .settled x)) (sym (turned q l)) (laws .turn-settled (f q) (choice-code q) (choice-settled (parts .0) q l)) in
-        let at = choice-firm (parts .1) in
-        let some : Some-firm o t (handle p) = (at .0, pattern-moved (at .0) (sym (grows .inputs)) (at .1), subst (Firm o) (sym (turned (at .0) (at .1))) (firm-turned laws (f (at .0)) (choice-code (at .0)) (at .2))) in
-        let may = may-mark-bare laws v sound-t p u alone some in
-        subst (Made o s t i low high) (sym (cond-true (turns o s low high) (handle p + 1) (handle p) e))
-        (record {
-          sound = sound-t;
-          lawful = place-lawful o t (handle p + 1) (omega arith) (omega arith) (λ _. ap (λ x. may-mark o (t .at x .reach)) (place-marked p) ∙ may);
-          means = λ q k. value-marked o v p q u ∙ ap (o .turn) (turned q k) ∙ laws .turn-back (f q) (choice-code q) (choice-settled (parts .0) q k);
-        }))
+      let parts = turns-parts o s low high e in
+      let f = choice o s i low high in
+      let turned : (q : ℕ) → q < 2 ^ s .inputs → value o t (handle p) q ≡ o .turn (f q) = λ q k. values q ∙ kept-turned e q k in
+      let alone : Settled-alone o t (handle p) = λ q k. let l = pattern-moved q (grows .inputs) k in subst (λ x. T (o .settled x)) (sym (turned q l)) (laws .turn-settled (f q) (choice-code q) (choice-settled (parts .0) q l)) in
+      let at = choice-firm (parts .1) in
+      let some : Some-firm o t (handle p) = (at .0, pattern-moved (at .0) (sym (grows .inputs)) (at .1), subst (Firm o) (sym (turned (at .0) (at .1))) (firm-turned laws (f (at .0)) (choice-code (at .0)) (at .2))) in
+      let may = may-mark-bare laws v sound-t p u alone some in
+      subst (Made o s t i low high) (sym (cond-true (turns o s low high) (handle p + 1) (handle p) e))
+      (record {
+        sound = sound-t;
+        lawful = place-lawful o t (handle p + 1) (omega arith) (omega arith) (λ _. ap (λ x. may-mark o (t .at x .reach)) (place-marked p) ∙ may);
+        means = λ q k. value-marked o v p q u ∙ ap (o .turn) (turned q k) ∙ laws .turn-back (f q) (choice-code q) (choice-settled (parts .0) q k);
+      }))
       (λ e.
-        subst (Made o s t i low high) (sym (cond-false (turns o s low high) (handle p + 1) (handle p) e))
-        (record { sound = sound-t; lawful = handle-lawful o t p u; means = λ q k. values q ∙ kept-same e q }))
+      subst (Made o s t i low high) (sym (cond-false (turns o s low high) (handle p + 1) (handle p) e))
+      (record { sound = sound-t; lawful = handle-lawful o t p u; means = λ q k. values q ∙ kept-same e q }))
       (cases-bool (turns o s low high))
 
   -- a place that holds the kept record's input and sides already
@@ -229,29 +235,29 @@ module _ {o : Ops} (laws : Laws o) {s : Store} (w : Well s) (sound : Sound o s) 
       let m = union o s low high in
       let values : (q : ℕ) → value o t p q ≡ choice o s i (kept-low o s low high) (kept-high o s low high) q = value-new w v sound d k kept-low-lawful kept-high-lawful kept-mask in
       let plain : (q : ℕ) → Settled-alone o t p → First-firm o t p q → o .plain (value o t p q) ≡ true = λ q alone f.
-          let f′ : Leads o (s .inputs) (value o t p) q = subst (λ n. Leads o n (value o t p) q) (d .inputs) (first-leads f) in
-          ⊎-elim
-          (λ e.
-            let parts = turns-parts o s low high e in
-            let turned : (q : ℕ) → q < 2 ^ s .inputs → value o t p q ≡ o .turn (choice o s i low high q) = λ q l. values q ∙ kept-turned e q l in
-            let g = leads-unturned laws {f = choice o s i low high} choice-code (choice-settled (parts .0)) turned f′ in
-            ap (o .plain) (turned q (g .within))
-            ∙ laws .one-plain (choice o s i low high q) (choice-code q) (g .firm)
-            ∙ ap not (lead-plain laws w sound i low high sides low-lawful high-lawful q (low-settled (parts .0)) (high-settled (parts .0)) g ∙ parts .2))
-          (λ e.
-            let same : (q : ℕ) → value o t p q ≡ choice o s i low high q = λ q. values q ∙ kept-same e q in
-            let few : (q : ℕ) → value o t p q < o .count = λ q. subst (λ x. x < o .count) (sym (same q)) (choice-code q) in
-            let reach = subst (λ b. Reaches b) e (reach-new w v sound d k kept-low-lawful kept-high-lawful kept-mask) in
-            let settled : settled-mask o m ≡ true = settled-is-mask laws t p m few reach alone in
-            let firm : firm-mask o m ≡ true = firm-is-mask laws t p m few reach (q, f .within, f .firm) in
-            let g : Leads o (s .inputs) (choice o s i low high) q = leads-agree (λ r l. sym (same r)) f′ in
-            ap (o .plain) (same q)
-            ∙ lead-plain laws w sound i low high sides low-lawful high-lawful q (low-settled settled) (high-settled settled) g
-            ∙ ⊎-elim
-              (λ not-both. absurd (both-ways (may-mark o m) not-both (and-from (settled-mask o m) (firm-mask o m) settled firm)))
-              (λ led. not-false (leads-plain o (lead o s low high)) led)
-              (and-cases (may-mark o m) (not (leads-plain o (lead o s low high))) e))
-          (cases-bool (turns o s low high)) in
+      let f′ : Leads o (s .inputs) (value o t p) q = subst (λ n. Leads o n (value o t p) q) (d .inputs) (first-leads f) in
+      ⊎-elim
+      (λ e.
+      let parts = turns-parts o s low high e in
+      let turned : (q : ℕ) → q < 2 ^ s .inputs → value o t p q ≡ o .turn (choice o s i low high q) = λ q l. values q ∙ kept-turned e q l in
+      let g = leads-unturned laws {f = choice o s i low high} choice-code (choice-settled (parts .0)) turned f′ in
+      ap (o .plain) (turned q (g .within))
+      ∙ laws .one-plain (choice o s i low high q) (choice-code q) (g .firm)
+      ∙ ap not (lead-plain laws w sound i low high sides low-lawful high-lawful q (low-settled (parts .0)) (high-settled (parts .0)) g ∙ parts .2))
+      (λ e.
+      let same : (q : ℕ) → value o t p q ≡ choice o s i low high q = λ q. values q ∙ kept-same e q in
+      let few : (q : ℕ) → value o t p q < o .count = λ q. subst (λ x. x < o .count) (sym (same q)) (choice-code q) in
+      let reach = subst (λ b. Reaches b) e (reach-new w v sound d k kept-low-lawful kept-high-lawful kept-mask) in
+      let settled : settled-mask o m ≡ true = settled-is-mask laws t p m few reach alone in
+      let firm : firm-mask o m ≡ true = firm-is-mask laws t p m few reach (q, f .within, f .firm) in
+      let g : Leads o (s .inputs) (choice o s i low high) q = leads-agree (λ r l. sym (same r)) f′ in
+      ap (o .plain) (same q)
+      ∙ lead-plain laws w sound i low high sides low-lawful high-lawful q (low-settled settled) (high-settled settled) g
+      ∙ ⊎-elim
+      (λ not-both. absurd (both-ways (may-mark o m) not-both (and-from (settled-mask o m) (firm-mask o m) settled firm)))
+      (λ led. not-false (leads-plain o (lead o s low high)) led)
+      (and-cases (may-mark o m) (not (leads-plain o (lead o s low high))) e))
+      (cases-bool (turns o s low high)) in
       made-at v (sound-added w v sound d k kept-low-lawful kept-high-lawful kept-mask plain) (added-grows d) (s .used) (omega (arith, d .used)) values
     where
       Reaches : Bool → Type 0

@@ -51,9 +51,9 @@ seek zero f = inl (λ k l. absurd (omega arith))
 seek (suc m) f =
     ⊎-elim
     (λ none. ⊎-elim
-      (λ e. inr (m, omega arith, e, none))
-      (λ e. inl (λ k l. ⊎-elim (λ c. none k c) (λ c. let last : k ≡ m = omega arith in ap f last ∙ e) (cases-lt k m)))
-      (cases-bool (f m)))
+    (λ e. inr (m, omega arith, e, none))
+    (λ e. inl (λ k l. ⊎-elim (λ c. none k c) (λ c. let last : k ≡ m = omega arith in ap f last ∙ e) (cases-lt k m)))
+    (cases-bool (f m)))
     (λ r. inr (r .0, (let l = r .1 in omega arith), r .2, r .3))
     (seek m f)
 
@@ -109,12 +109,12 @@ module _ {o : Ops} (laws : Laws o) (s : Store) (h m : ℕ) (codes : (q : ℕ) �
   settled-is-mask alone =
       all-from 16 (λ v. not (up m v) || settled-code o v)
       (λ v l. ⊎-elim
-        (λ e.
-          let r = reach .reached v e in
-          or-right (not (up m v)) (settled-code o v)
-          (ap (settled-code o) (sym (r .2)) ∙ settled-settled-code o (value o s h (r .0)) (codes (r .0)) (alone (r .0) (r .1))))
-        (λ e. or-left (not (up m v)) (settled-code o v) (not-from-false (up m v) e))
-        (cases-bool (up m v)))
+      (λ e.
+      let r = reach .reached v e in
+      or-right (not (up m v)) (settled-code o v)
+      (ap (settled-code o) (sym (r .2)) ∙ settled-settled-code o (value o s h (r .0)) (codes (r .0)) (alone (r .0) (r .1))))
+      (λ e. or-left (not (up m v)) (settled-code o v) (not-from-false (up m v) e))
+      (cases-bool (up m v)))
 
   pub mask-firm : firm-mask o m ≡ true → Some-firm o s h
   mask-firm e =
@@ -132,13 +132,13 @@ module _ {o : Ops} (laws : Laws o) (s : Store) (h m : ℕ) (codes : (q : ℕ) �
       let few = codes (r .0) in
       not-from-false (all-below 16 f)
       (⊎-elim
-        (λ e. absurd
-          (⊎-elim
-            (λ no-bit. both-ways (up m v) (not-true (up m v) no-bit) (reach .reaches (r .0) (r .1)))
-            (λ soft. both-ways (firm-code o v) (not-true (firm-code o v) soft) (firm-firm-code o v few (r .2)))
-            (or-cases (not (up m v)) (not (firm-code o v)) (all-at 16 f e v (omega (arith, laws .sixteen-at-most))))))
-        (λ e. e)
-        (cases-bool (all-below 16 f)))
+      (λ e. absurd
+      (⊎-elim
+      (λ no-bit. both-ways (up m v) (not-true (up m v) no-bit) (reach .reaches (r .0) (r .1)))
+      (λ soft. both-ways (firm-code o v) (not-true (firm-code o v) soft) (firm-firm-code o v few (r .2)))
+      (or-cases (not (up m v)) (not (firm-code o v)) (all-at 16 f e v (omega (arith, laws .sixteen-at-most))))))
+      (λ e. e)
+      (cases-bool (all-below 16 f)))
 
 -- a handle with a firm value has a first one
 pub first-firm : {o : Ops} (s : Store) (h : ℕ) → ((q : ℕ) → value o s h q < o .count) → Some-firm o s h → (q : ℕ) × First-firm o s h q
@@ -151,6 +151,6 @@ first-firm {o} s h codes r =
         within = f .1;
         firm = firm-code-firm o (value o s h (f .0)) (f .2);
         first = λ q l firm. both-ways (firm-code o (value o s h q)) (f .3 q l) (firm-firm-code o (value o s h q) (codes q) firm);
-      }
+      },
     ))
     (seek (2 ^ s .inputs) (λ q. firm-code o (value o s h q)))

@@ -40,13 +40,13 @@ pub flipped-twice : (h : ℕ) → 16 ≤ h → flipped (flipped h) ≡ h
 flipped-twice h g =
     ⊎-elim
     (λ e.
-      let d = marked-handle h g e in
-      let c : flipped h ≡ handle (place h) = flipped-marked h e ∙ omega arith in
-      ap flipped c ∙ flipped-unmarked (handle (place h)) (handle-unmarked (place h)) ∙ sym d)
+    let d = marked-handle h g e in
+    let c : flipped h ≡ handle (place h) = flipped-marked h e ∙ omega arith in
+    ap flipped c ∙ flipped-unmarked (handle (place h)) (handle-unmarked (place h)) ∙ sym d)
     (λ e.
-      let d = unmarked-handle h g e in
-      let c : flipped h ≡ handle (place h) + 1 = flipped-unmarked h e ∙ omega arith in
-      ap flipped c ∙ flipped-marked (handle (place h) + 1) (handle-marked (place h)) ∙ omega arith)
+    let d = unmarked-handle h g e in
+    let c : flipped h ≡ handle (place h) + 1 = flipped-unmarked h e ∙ omega arith in
+    ap flipped c ∙ flipped-marked (handle (place h) + 1) (handle-marked (place h)) ∙ omega arith)
     (cases-bool (marked h))
 
 -- the three cases
@@ -107,11 +107,11 @@ module _ {o : Ops} (laws : Laws o) {s : Store} (w : Well s) (sound : Sound o s) 
       ⊎-elim
       (λ c. constant-lawful o s (negate o s h) (negate-small laws s h c) (omega (arith, negate-constant o s h c, laws .turn-below h)))
       (λ g. ⊎-elim
-        (λ e.
-          let kept = negate-place laws s h g in
-          place-lawful o s (negate o s h) (negate-large laws s h g) (omega (arith, lawful-place o s h l g)) (λ _. ap (λ p. may-mark o (s .at p .reach)) kept ∙ e))
-        (λ e. subst (Lawful o s) (sym (negate-stays o s h g e)) l)
-        (cases-bool (may-mark o (s .at (place h) .reach))))
+      (λ e.
+      let kept = negate-place laws s h g in
+      place-lawful o s (negate o s h) (negate-large laws s h g) (omega (arith, lawful-place o s h l g)) (λ _. ap (λ p. may-mark o (s .at p .reach)) kept ∙ e))
+      (λ e. subst (Lawful o s) (sym (negate-stays o s h g e)) l)
+      (cases-bool (may-mark o (s .at (place h) .reach))))
       (cases-lt h 16)
 
   -- its value is the NOT of the handle's
@@ -119,41 +119,41 @@ module _ {o : Ops} (laws : Laws o) {s : Store} (w : Well s) (sound : Sound o s) 
   negate-value h q l alone k =
       ⊎-elim
       (λ c.
-        ap (λ x. value o s x q) (negate-constant o s h c)
-        ∙ value-constant o s (o .turn h) q (omega (arith, laws .turn-below h, laws .sixteen-at-most))
-        ∙ ap (o .turn) (sym (value-constant o s h q c)))
+      ap (λ x. value o s x q) (negate-constant o s h c)
+      ∙ value-constant o s (o .turn h) q (omega (arith, laws .turn-below h, laws .sixteen-at-most))
+      ∙ ap (o .turn) (sym (value-constant o s h q c)))
       (λ g.
-        let u = lawful-place o s h l g in
-        let p = place h in
-        let x = value o s (handle p) q in
-        ⊎-elim
-        (λ e. ⊎-elim
-          (λ m.
-            let d : h - 1 ≡ handle p = omega (arith, marked-handle h g m) in
-            let few : x < o .count = codes laws w sound (handle p) q (handle-lawful o s p u) in
-            ap (λ y. value o s y q) (negate-flips o s h g e ∙ flipped-marked h m ∙ d)
-            ∙ sym (laws .turn-back x few (marked-settled laws w sound h l g m q k))
-            ∙ ap (o .turn) (sym (value-under o w h q g (lawful-within o s h l) ∙ under-marked o h x m)))
-          (λ m.
-            let d = unmarked-handle h g m in
-            let d1 : h + 1 ≡ handle p + 1 = ap (λ y. y + 1) d in
-            ap (λ y. value o s y q) (negate-flips o s h g e ∙ flipped-unmarked h m ∙ d1)
-            ∙ value-marked o w p q u
-            ∙ ap (λ y. o .turn (value o s y q)) (sym d))
-          (cases-bool (marked h)))
-        (λ e. ⊎-elim
-          (λ m. absurd (both-ways (may-mark o (s .at p .reach)) e (lawful-marked o s h l g m)))
-          (λ m.
-            let d = unmarked-handle h g m in
-            let v = value o s h q in
-            ap (λ y. value o s y q) (negate-stays o s h g e)
-            ∙ ⊎-elim sym
-              (λ ne. absurd
-                (both-ways (may-mark o (s .at p .reach)) e
-                  (may-mark-bare p u (subst (Settled-alone o s) d alone) (subst (Some-firm o s) d (q, k, (alone q k, ne))))))
-              (cases-eq (o .turn v) v))
-          (cases-bool (marked h)))
-        (cases-bool (may-mark o (s .at p .reach))))
+      let u = lawful-place o s h l g in
+      let p = place h in
+      let x = value o s (handle p) q in
+      ⊎-elim
+      (λ e. ⊎-elim
+      (λ m.
+      let d : h - 1 ≡ handle p = omega (arith, marked-handle h g m) in
+      let few : x < o .count = codes laws w sound (handle p) q (handle-lawful o s p u) in
+      ap (λ y. value o s y q) (negate-flips o s h g e ∙ flipped-marked h m ∙ d)
+      ∙ sym (laws .turn-back x few (marked-settled laws w sound h l g m q k))
+      ∙ ap (o .turn) (sym (value-under o w h q g (lawful-within o s h l) ∙ under-marked o h x m)))
+      (λ m.
+      let d = unmarked-handle h g m in
+      let d1 : h + 1 ≡ handle p + 1 = ap (λ y. y + 1) d in
+      ap (λ y. value o s y q) (negate-flips o s h g e ∙ flipped-unmarked h m ∙ d1)
+      ∙ value-marked o w p q u
+      ∙ ap (λ y. o .turn (value o s y q)) (sym d))
+      (cases-bool (marked h)))
+      (λ e. ⊎-elim
+      (λ m. absurd (both-ways (may-mark o (s .at p .reach)) e (lawful-marked o s h l g m)))
+      (λ m.
+      let d = unmarked-handle h g m in
+      let v = value o s h q in
+      ap (λ y. value o s y q) (negate-stays o s h g e)
+      ∙ ⊎-elim sym
+      (λ ne. absurd
+      (both-ways (may-mark o (s .at p .reach)) e
+      (may-mark-bare p u (subst (Settled-alone o s) d alone) (subst (Some-firm o s) d (q, k, (alone q k, ne))))))
+      (cases-eq (o .turn v) v))
+      (cases-bool (marked h)))
+      (cases-bool (may-mark o (s .at p .reach))))
       (cases-lt h 16)
 
   pub negate-settled : (h : ℕ) → Lawful o s h → Settled-alone o s h → Settled-alone o s (negate o s h)
@@ -165,6 +165,6 @@ module _ {o : Ops} (laws : Laws o) {s : Store} (w : Well s) (sound : Sound o s) 
   negate-twice h l alone =
       one-number laws w sound _ h (negate-lawful (negate o s h) (negate-lawful h l)) l
       (λ q k.
-        negate-value (negate o s h) q (negate-lawful h l) (negate-settled h l alone) k
-        ∙ ap (o .turn) (negate-value h q l alone k)
-        ∙ laws .turn-back (value o s h q) (codes laws w sound h q l) (alone q k))
+      negate-value (negate o s h) q (negate-lawful h l) (negate-settled h l alone) k
+      ∙ ap (o .turn) (negate-value h q l alone k)
+      ∙ laws .turn-back (value o s h q) (codes laws w sound h q l) (alone q k))

@@ -22,15 +22,15 @@ or-digits : (x y : ℕ) → x < 2 → y < 2 → eqb (bitOr x y) 1 ≡ (eqb x 1 |
 or-digits x y l m =
     ⊎-elim
     (λ c. let e : x ≡ 0 = omega arith in
-      ⊎-elim
-      (λ d. let f : y ≡ 0 = omega arith in rw (e, f))
-      (λ d. let f : y ≡ 1 = omega arith in rw (e, f))
-      (cases-lt y 1))
+    ⊎-elim
+    (λ d. let f : y ≡ 0 = omega arith in rw (e, f))
+    (λ d. let f : y ≡ 1 = omega arith in rw (e, f))
+    (cases-lt y 1))
     (λ c. let e : x ≡ 1 = omega arith in
-      ⊎-elim
-      (λ d. let f : y ≡ 0 = omega arith in rw (e, f))
-      (λ d. let f : y ≡ 1 = omega arith in rw (e, f))
-      (cases-lt y 1))
+    ⊎-elim
+    (λ d. let f : y ≡ 0 = omega arith in rw (e, f))
+    (λ d. let f : y ≡ 1 = omega arith in rw (e, f))
+    (cases-lt y 1))
     (cases-lt x 1)
 
 pub up-union : (a b v : ℕ) → up (bitOr a b) v ≡ (up a v || up b v)
@@ -61,8 +61,8 @@ pub up-only : (h v : ℕ) → up (2 ^ h) v ≡ true → v ≡ h
 up-only h v e =
     ⊎-elim (λ same. same)
     (⊎-elim
-      (λ below. absurd (even (2 ^ (h - v - 1)) (ap (λ z. z % 2) (sym (halves below)) ∙ eqb-true ((2 ^ h / 2 ^ v) % 2) 1 e)))
-      (λ above. absurd (none (ap (λ z. z % 2) (sym (div-eq-of-lt {n = 2 ^ h} {m = 2 ^ v} (pow-lt above))) ∙ eqb-true ((2 ^ h / 2 ^ v) % 2) 1 e))))
+    (λ below. absurd (even (2 ^ (h - v - 1)) (ap (λ z. z % 2) (sym (halves below)) ∙ eqb-true ((2 ^ h / 2 ^ v) % 2) 1 e)))
+    (λ above. absurd (none (ap (λ z. z % 2) (sym (div-eq-of-lt {n = 2 ^ h} {m = 2 ^ v} (pow-lt above))) ∙ eqb-true ((2 ^ h / 2 ^ v) % 2) 1 e))))
     (cases-order v h)
   where
     even : (x : ℕ) → (x * 2) % 2 ≡ 1 → ⊥
@@ -87,15 +87,15 @@ up-turned o m (suc k) u l e =
     let rest = turn-below o m k in
     ⊎-elim
     (λ c.
-      let earlier = up-turned o m k u c e in
-      ⊎-elim
-      (λ d. ap (λ z. up z (o .turn u)) (cond-true (up m k) (bitOr rest (2 ^ o .turn k)) rest d) ∙ up-union-left rest (2 ^ o .turn k) (o .turn u) earlier)
-      (λ d. ap (λ z. up z (o .turn u)) (cond-false (up m k) (bitOr rest (2 ^ o .turn k)) rest d) ∙ earlier)
-      (cases-bool (up m k)))
+    let earlier = up-turned o m k u c e in
+    ⊎-elim
+    (λ d. ap (λ z. up z (o .turn u)) (cond-true (up m k) (bitOr rest (2 ^ o .turn k)) rest d) ∙ up-union-left rest (2 ^ o .turn k) (o .turn u) earlier)
+    (λ d. ap (λ z. up z (o .turn u)) (cond-false (up m k) (bitOr rest (2 ^ o .turn k)) rest d) ∙ earlier)
+    (cases-bool (up m k)))
     (λ c.
-      let last : u ≡ k = omega arith in
-      ap (λ z. up z (o .turn u)) (cond-true (up m k) (bitOr rest (2 ^ o .turn k)) rest (ap (up m) (sym last) ∙ e))
-      ∙ up-union-right rest (2 ^ o .turn k) (o .turn u) (ap (λ z. up (2 ^ o .turn k) (o .turn z)) last ∙ up-one (o .turn k)))
+    let last : u ≡ k = omega arith in
+    ap (λ z. up z (o .turn u)) (cond-true (up m k) (bitOr rest (2 ^ o .turn k)) rest (ap (up m) (sym last) ∙ e))
+    ∙ up-union-right rest (2 ^ o .turn k) (o .turn u) (ap (λ z. up (2 ^ o .turn k) (o .turn z)) last ∙ up-one (o .turn k)))
     (cases-lt u k)
 
 pub up-turned-from : (o : Ops) (m k v : ℕ) → up (turn-below o m k) v ≡ true → (u : ℕ) × (up m u ≡ true) × (o .turn u ≡ v)
@@ -105,15 +105,15 @@ up-turned-from o m (suc k) v e =
     let rest = turn-below o m k in
     ⊎-elim
     (λ d. ⊎-elim
-      (up-turned-from o m k v)
-      (λ f. (k, d, sym (up-only (o .turn k) v f)))
-      (up-union-cases rest (2 ^ o .turn k) v (ap (λ z. up z v) (sym (cond-true (up m k) (bitOr rest (2 ^ o .turn k)) rest d)) ∙ e)))
+    (up-turned-from o m k v)
+    (λ f. (k, d, sym (up-only (o .turn k) v f)))
+    (up-union-cases rest (2 ^ o .turn k) v (ap (λ z. up z v) (sym (cond-true (up m k) (bitOr rest (2 ^ o .turn k)) rest d)) ∙ e)))
     (λ d. up-turned-from o m k v (ap (λ z. up z v) (sym (cond-false (up m k) (bitOr rest (2 ^ o .turn k)) rest d)) ∙ e))
     (cases-bool (up m k))
 
 -- a handle that is the NOT of another reaches the NOT of its values
 pub reach-turned : {o : Ops} → Laws o → (s : Store) (g h m : ℕ) → ((q : ℕ) → value o s g q < o .count)
-  → ((q : ℕ) → q < 2 ^ s .inputs → value o s h q ≡ o .turn (value o s g q)) → Reach o s g m → Reach o s h (turn-mask o m)
+    → ((q : ℕ) → q < 2 ^ s .inputs → value o s h q ≡ o .turn (value o s g q)) → Reach o s g m → Reach o s h (turn-mask o m)
 reach-turned {o} laws s g h m few turned reach =
     record {
       reached = λ v e.
@@ -130,25 +130,25 @@ pub reach-right : {o : Ops} → Laws o → {s : Store} (w : Well s) → Sound o 
 reach-right {o} laws {s} w sound h l =
     ⊎-elim
     (λ c.
-      subst (Reach o s h) (sym (at-constant h (2 ^ h) _ c))
-      (record {
-        reached = λ v e. (0, pow-pos (s .inputs), value-constant o s h 0 c ∙ sym (up-only h v e));
-        reaches = λ q k. ap (up (2 ^ h)) (value-constant o s h q c) ∙ up-one h;
-      }))
+    subst (Reach o s h) (sym (at-constant h (2 ^ h) _ c))
+    (record {
+      reached = λ v e. (0, pow-pos (s .inputs), value-constant o s h 0 c ∙ sym (up-only h v e));
+      reaches = λ q k. ap (up (2 ^ h)) (value-constant o s h q c) ∙ up-one h;
+    }))
     (λ g.
-      let p = place h in
-      let m = s .at p .reach in
-      let u = lawful-place o s h l g in
-      ⊎-elim
-      (λ e.
-        subst (Reach o s h) (sym (at-place h (2 ^ h) _ g ∙ cond-true (marked h) (turn-mask o m) m e))
-        (reach-turned laws s (handle p) h m (λ q. codes laws w sound (handle p) q (handle-lawful o s p u))
-          (λ q k. value-under o w h q g (lawful-within o s h l) ∙ under-marked o h _ e)
-          (reach-place sound p u)))
-      (λ e.
-        subst (Reach o s h) (sym (at-place h (2 ^ h) _ g ∙ cond-false (marked h) (turn-mask o m) m e))
-        (subst (λ x. Reach o s x m) (sym (unmarked-handle h g e)) (reach-place sound p u)))
-      (cases-bool (marked h)))
+    let p = place h in
+    let m = s .at p .reach in
+    let u = lawful-place o s h l g in
+    ⊎-elim
+    (λ e.
+    subst (Reach o s h) (sym (at-place h (2 ^ h) _ g ∙ cond-true (marked h) (turn-mask o m) m e))
+    (reach-turned laws s (handle p) h m (λ q. codes laws w sound (handle p) q (handle-lawful o s p u))
+    (λ q k. value-under o w h q g (lawful-within o s h l) ∙ under-marked o h _ e)
+    (reach-place sound p u)))
+    (λ e.
+    subst (Reach o s h) (sym (at-place h (2 ^ h) _ g ∙ cond-false (marked h) (turn-mask o m) m e))
+    (subst (λ x. Reach o s x m) (sym (unmarked-handle h g e)) (reach-place sound p u)))
+    (cases-bool (marked h)))
     (cases-lt h 16)
 
 -- what a mask says of two sides
@@ -170,8 +170,8 @@ union-right laws w sound low high l m = union-of (reach-right laws w sound low l
 
 -- the NOT of both sides
 pub union-turned : {o : Ops} → Laws o → (s : Store) (low high low′ high′ m : ℕ) → ((q : ℕ) → value o s low q < o .count) → ((q : ℕ) → value o s high q < o .count)
-  → ((q : ℕ) → q < 2 ^ s .inputs → value o s low′ q ≡ o .turn (value o s low q)) → ((q : ℕ) → q < 2 ^ s .inputs → value o s high′ q ≡ o .turn (value o s high q))
-  → Union o s low high m → Union o s low′ high′ (turn-mask o m)
+    → ((q : ℕ) → q < 2 ^ s .inputs → value o s low′ q ≡ o .turn (value o s low q)) → ((q : ℕ) → q < 2 ^ s .inputs → value o s high′ q ≡ o .turn (value o s high q))
+    → Union o s low high m → Union o s low′ high′ (turn-mask o m)
 union-turned {o} laws s low high low′ high′ m few few′ turned turned′ x =
     record {
       reached = λ v e.

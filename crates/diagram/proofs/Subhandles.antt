@@ -38,30 +38,29 @@ module _ {o : Ops} (laws : Laws o) {s : Store} (w : Well s) (sound : Sound o s) 
           lawful = sub .lawful;
           deep = omega arith;
           means = λ p m. ignores o w g p (p′ p) u (λ j c d. sym (fixed-after n (k + 1) a p j (omega arith) d)) ∙ there p;
-        }
+        },
       ))
       (λ here.
-        let at : level s g ≡ k = omega (arith, sub .deep) in
-        let large : 16 ≤ g = ⊎-elim (λ c. absurd (omega (arith, level-constant s g c))) (λ c. c) (cases-lt g 16) in
-        let b = a % 2 in
-        (
-          cofactor o s g b,
-          record {
-            lawful = cofactor-lawful laws w sound g b (sub .lawful) large;
-            deep = omega (arith, cofactor-deeper laws w g b large u);
-            means = λ p m.
+      let at : level s g ≡ k = omega (arith, sub .deep) in
+      let large : 16 ≤ g = ⊎-elim (λ c. absurd (omega (arith, level-constant s g c))) (λ c. c) (cases-lt g 16) in
+      let b = a % 2 in (
+        cofactor o s g b,
+        record {
+          lawful = cofactor-lawful laws w sound g b (sub .lawful) large;
+          deep = omega (arith, cofactor-deeper laws w g b large u);
+          means = λ p m.
               cofactor-value laws w sound g b (sub .lawful) large p (omega arith) m
               ∙ ap (λ i. value o s g (fixed n (i + 1) b p)) at
               ∙ ignores o w g (fixed n (k + 1) b p) (p′ p) u
-                (λ j c d. ⊎-elim
-                  (λ later. fixed-after n (k + 1) b p j (omega arith) d ∙ sym (fixed-after n (k + 1) a p j (omega arith) d))
-                  (λ now.
-                    let same : j ≡ k = omega (arith, sub .deep) in
-                    ap (bit n (fixed n (k + 1) b p)) same ∙ fixed-last n k b p inside ∙ omega arith ∙ sym (fixed-last n k a p inside) ∙ ap (bit n (p′ p)) (sym same))
-                  (cases-lt k j))
+              (λ j c d. ⊎-elim
+              (λ later. fixed-after n (k + 1) b p j (omega arith) d ∙ sym (fixed-after n (k + 1) a p j (omega arith) d))
+              (λ now.
+              let same : j ≡ k = omega (arith, sub .deep) in
+              ap (bit n (fixed n (k + 1) b p)) same ∙ fixed-last n k b p inside ∙ omega arith ∙ sym (fixed-last n k a p inside) ∙ ap (bit n (p′ p)) (sym same))
+              (cases-lt k j))
               ∙ there p;
-          }
-        ))
+        },
+      ))
       (cases-lt k (level s g))
 
   pub subhandle : (k a : ℕ) → k ≤ s .inputs → a < 2 ^ k → (g : ℕ) × Subhandle o s h k a g

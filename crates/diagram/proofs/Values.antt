@@ -111,10 +111,10 @@ module _ (o : Ops) (s : Store) (h : ℕ) where
   place-lawful g u m =
       at-place h (ltb h (o .count)) _ g
       ∙ and-from (ltb (place h) (s .used)) _ (lt-ltb (place h) (s .used) u)
-        (⊎-elim
-          (λ e. or-right (not (marked h)) (may-mark o (s .at (place h) .reach)) (m e))
-          (λ e. or-left (not (marked h)) (may-mark o (s .at (place h) .reach)) (not-from-false (marked h) e))
-          (cases-bool (marked h)))
+      (⊎-elim
+      (λ e. or-right (not (marked h)) (may-mark o (s .at (place h) .reach)) (m e))
+      (λ e. or-left (not (marked h)) (may-mark o (s .at (place h) .reach)) (not-from-false (marked h) e))
+      (cases-bool (marked h)))
 
 pub handle-lawful : (o : Ops) (s : Store) (p : ℕ) → p < s .used → Lawful o s (handle p)
 handle-lawful o s p u = place-lawful o s (handle p) (omega arith) (omega arith) (λ e. absurd (both-ways (marked (handle p)) (handle-unmarked p) e))
@@ -124,9 +124,9 @@ lawful-grows o {s} {t} grows h l =
     ⊎-elim
     (λ c. constant-lawful o t h c (lawful-constant o s h l c))
     (λ g.
-      let u = lawful-place o s h l g in
-      place-lawful o t h g (omega (arith, grows .more))
-      (λ m. ap (λ r. may-mark o (r .reach)) (grows .same (place h) u) ∙ lawful-marked o s h l g m))
+    let u = lawful-place o s h l g in
+    place-lawful o t h g (omega (arith, grows .more))
+    (λ m. ap (λ r. may-mark o (r .reach)) (grows .same (place h) u) ∙ lawful-marked o s h l g m))
     (cases-lt h 16)
 
 -- where the next step goes
@@ -150,13 +150,13 @@ enough o {s} w p (suc m) (suc k) h u a b =
     ⊎-elim
     (λ c. descend-constant o s p m h c ∙ sym (descend-constant o s p k h c))
     (λ c.
-      let q : place h < s .used = omega arith in
-      let before = side-before w (place h) (bit (s .inputs) p (s .at (place h) .input)) q in
-      let deeper = side-deeper w (place h) (bit (s .inputs) p (s .at (place h) .input)) q in
-      let e = level-place s h c in
-      descend-place o s p m h c
-      ∙ ap (under-mark o h) (enough o w p m k (next s p h) (omega arith) (omega arith) (omega arith))
-      ∙ sym (descend-place o s p k h c))
+    let q : place h < s .used = omega arith in
+    let before = side-before w (place h) (bit (s .inputs) p (s .at (place h) .input)) q in
+    let deeper = side-deeper w (place h) (bit (s .inputs) p (s .at (place h) .input)) q in
+    let e = level-place s h c in
+    descend-place o s p m h c
+    ∙ ap (under-mark o h) (enough o w p m k (next s p h) (omega arith) (omega arith) (omega arith))
+    ∙ sym (descend-place o s p k h c))
     (cases-lt h 16)
 
 pub value-constant : (o : Ops) (s : Store) (h p : ℕ) → h < 16 → value o s h p ≡ h
@@ -164,7 +164,7 @@ unfolding value
 value-constant o s h p l = descend-constant o s p (s .inputs) h l
 
 pub value-place : (o : Ops) {s : Store} (w : Well s) (h p : ℕ) → 16 ≤ h → Within s h
-  → value o s h p ≡ under-mark o h (value o s (side (s .at (place h)) (bit (s .inputs) p (s .at (place h) .input))) p)
+    → value o s h p ≡ under-mark o h (value o s (side (s .at (place h)) (bit (s .inputs) p (s .at (place h) .input))) p)
 unfolding value next
 value-place o {s} w h p g u =
     let q : place h < s .used = omega arith in
@@ -205,10 +205,10 @@ descend-grows o {s} {t} w grows p (suc m) h u =
     ⊎-elim
     (λ c. descend-constant o t p m h c ∙ sym (descend-constant o s p m h c))
     (λ c.
-      let q : place h < s .used = omega arith in
-      descend-place o t p m h c
-      ∙ ap (under-mark o h) (ap (descend o t p m) (step q) ∙ descend-grows o w grows p m (next s p h) (before q))
-      ∙ sym (descend-place o s p m h c))
+    let q : place h < s .used = omega arith in
+    descend-place o t p m h c
+    ∙ ap (under-mark o h) (ap (descend o t p m) (step q) ∙ descend-grows o w grows p m (next s p h) (before q))
+    ∙ sym (descend-place o s p m h c))
     (cases-lt h 16)
   where
     step : place h < s .used → next t p h ≡ next s p h
@@ -233,17 +233,17 @@ ignores-below o {s} w (suc b) h p q l u same =
     ⊎-elim
     (λ c. value-constant o s h p c ∙ sym (value-constant o s h q c))
     (λ c.
-      let r = s .at (place h) in
-      let d : place h < s .used = omega arith in
-      let e = level-place s h c in
-      let v = bit (s .inputs) q (r .input) in
-      let before = side-before w (place h) v d in
-      let deeper = side-deeper w (place h) v d in
-      let within = w .placed (place h) d .within in
-      value-place o w h p c u
-      ∙ ap (λ v. under-mark o h (value o s (side r v) p)) (same (r .input) (omega arith) within)
-      ∙ ap (under-mark o h) (ignores-below o w b (side r v) p q (omega arith) (omega arith) (λ i k m. same i (omega arith) m))
-      ∙ sym (value-place o w h q c u))
+    let r = s .at (place h) in
+    let d : place h < s .used = omega arith in
+    let e = level-place s h c in
+    let v = bit (s .inputs) q (r .input) in
+    let before = side-before w (place h) v d in
+    let deeper = side-deeper w (place h) v d in
+    let within = w .placed (place h) d .within in
+    value-place o w h p c u
+    ∙ ap (λ v. under-mark o h (value o s (side r v) p)) (same (r .input) (omega arith) within)
+    ∙ ap (under-mark o h) (ignores-below o w b (side r v) p q (omega arith) (omega arith) (λ i k m. same i (omega arith) m))
+    ∙ sym (value-place o w h q c u))
     (cases-lt h 16)
 
 pub ignores : (o : Ops) {s : Store} (w : Well s) (h p q : ℕ) → Within s h → Agree-from (s .inputs) (level s h) p q → value o s h p ≡ value o s h q
@@ -256,12 +256,12 @@ codes-below {o} laws {s} w sound (suc b) h p l a =
     ⊎-elim
     (λ c. rw (value-constant o s h p c) (lawful-constant o s h a c))
     (λ c.
-      let d = lawful-place o s h a c in
-      let v = bit (s .inputs) p (s .at (place h) .input) in
-      let x = value o s (side (s .at (place h)) v) p in
-      let before = side-before w (place h) v d in
-      rw (value-place o w h p c (lawful-within o s h a))
-      (cond-both (marked h) (o .turn x) x (λ y. y < o .count) (λ _. laws .turn-below x) (λ _. codes-below laws w sound b (side (s .at (place h)) v) p (omega arith) (side-lawful sound (place h) v d))))
+    let d = lawful-place o s h a c in
+    let v = bit (s .inputs) p (s .at (place h) .input) in
+    let x = value o s (side (s .at (place h)) v) p in
+    let before = side-before w (place h) v d in
+    rw (value-place o w h p c (lawful-within o s h a))
+    (cond-both (marked h) (o .turn x) x (λ y. y < o .count) (λ _. laws .turn-below x) (λ _. codes-below laws w sound b (side (s .at (place h)) v) p (omega arith) (side-lawful sound (place h) v d))))
     (cases-lt h 16)
 
 pub codes : {o : Ops} (laws : Laws o) {s : Store} (w : Well s) (sound : Sound o s) (h p : ℕ) → Lawful o s h → value o s h p < o .count
