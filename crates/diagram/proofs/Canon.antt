@@ -12,6 +12,7 @@ use Rattle.algebra.specs.Laws.{Laws, Firm}
 use Rattle.netlist.specs.Signals.{Agree}
 use Rattle.diagram.specs.Stores.{Store, handle, place, marked, level, side, under-mark, value}
 use Rattle.diagram.specs.Rules.{Well, Sound, Lawful, settled-mask, firm-mask, Settled-alone, First-firm}
+use Rattle.diagram.specs.Canonical.{One-number}
 use Rattle.diagram.proofs.Bits.{fixed, fixed-after, chosen-below, chosen-bit}
 use Rattle.diagram.proofs.Values.{unmarked-handle, marked-handle, level-constant, level-place, level-inside, level-within, side-before, side-deeper, lawful-place, lawful-within, lawful-marked, handle-lawful, value-constant, value-handle, value-under, under-unmarked, under-marked, ignores, codes}
 use Rattle.diagram.proofs.Masks.{reach-place, mask-settled, mask-firm, first-firm, firm-turned, firm-unturned, Some-firm}
@@ -193,3 +194,6 @@ module _ {o : Ops} (laws : Laws o) {s : Store} (w : Well s) (sound : Sound o s) 
   pub one-number : (x y : ℕ) → Lawful o s x → Lawful o s y → Agree (s .inputs) (value o s x) (value o s y) → x ≡ y
   unfolding Below
   one-number x y lx ly same = canonical-below (suc (x + y)) x y (omega arith) (omega arith) lx ly same
+
+pub canonical : One-number
+canonical o s laws w sound = one-number laws w sound

@@ -1,35 +1,29 @@
 -- What making a record comes to: the shape and the rules stand, and the handle that is answered is the choice between the
 -- two sides. Assumes nothing.
 use mathlib.Core.Path.{_≡_, refl, sym, ap, _∙_, subst}
-use mathlib.Core.Bool.{Bool, true, false, cond, not, _||_}
+use mathlib.Core.Bool.{Bool, true, false, cond, not}
 use mathlib.Core.Logic.{⊎-elim}
 use Prim.Native.Nat.{ℕ, _+_, _^_, _<_, _≤_}
 use native.Mathlib.Omega.{arith}
 use lib.Dec.{T, ltb, eqb}
-use Rattle.std.proofs.shelf.Tests.{cases-lt, cases-bool, cond-true, cond-false, cond-both, ltb-true, and-parts, and-from, and-cases, or-cases, or-parts, not-true, not-false, both-ways}
+use Rattle.std.proofs.shelf.Tests.{cases-lt, cases-bool, cond-true, cond-false, cond-both, ltb-true, and-parts, and-from, and-cases, not-true, not-false, both-ways}
 use Rattle.algebra.specs.Ops.{Ops}
 use Rattle.algebra.specs.Laws.{Laws, Firm}
-use Rattle.netlist.specs.Parts.{all-below}
 use Rattle.netlist.specs.Signals.{bit}
 use Rattle.diagram.specs.Stores.{Store, handle, place, level, value, up}
-use Rattle.diagram.specs.Rules.{Well, Sound, Lawful, settled-code, firm-code, settled-mask, firm-mask, may-mark, Settled-alone, First-firm}
+use Rattle.diagram.specs.Rules.{Well, Sound, Lawful, settled-code, settled-mask, firm-mask, may-mark, Settled-alone, First-firm}
 use Rattle.diagram.specs.Changes.{Within, Grows, Added}
 use Rattle.diagram.specs.Marks.{flipped, negate, turn-mask, reach-of, union, leads-plain, lead, turns, kept-low, kept-high, kept-reach, kept, made-handle, Sides, Made}
 use Rattle.diagram.proofs.Bits.{fixed, chosen-below}
 use Rattle.diagram.proofs.Values.{at-constant, place-handle, place-marked, level-place, place-lawful, handle-lawful, value-marked, codes}
 use Rattle.diagram.proofs.Moves.{pattern-moved}
-use Rattle.diagram.proofs.Masks.{all-at, all-fails, settled-code-settled, firm-code-firm, firm-turned, Some-firm, Reach, settled-is-mask, firm-is-mask}
+use Rattle.diagram.proofs.Masks.{mask-code, mask-some, settled-code-settled, firm-turned, Some-firm, Reach, settled-is-mask, firm-is-mask}
 use Rattle.diagram.proofs.Negates.{negate-constant, negate-flips, negate-stays, negate-small, negate-large, negate-place, negate-before, negate-level, negate-lawful, negate-value, may-mark-bare, flipped-twice}
 use Rattle.diagram.proofs.Reaches.{up-one, up-union-left, up-union-right, Union, union-right, union-turned}
 use Rattle.diagram.proofs.Firsts.{choice, choice-down, choice-up, choice-low, choice-high, bit-cases, Leads, first-leads, leads-agree, leads-unturned, lead-plain}
 use Rattle.diagram.proofs.Adds.{Absent, grows-refl, added-grows, well-added, value-at, value-new, reach-new, sound-added}
 
 -- The shape, which needs no rule.
-
-mask-code : (o : Ops) (m v : ℕ) → settled-mask o m ≡ true → v < 16 → up m v ≡ true → settled-code o v ≡ true
-mask-code o m v e l b =
-    ⊎-elim (λ no-bit. absurd (both-ways (up m v) (not-true (up m v) no-bit) b)) (λ d. d)
-    (or-cases (not (up m v)) (settled-code o v) (all-at 16 (λ v. not (up m v) || settled-code o v) e v l))
 
 turn-injective : {o : Ops} → Laws o → (a b : ℕ) → settled-code o a ≡ true → settled-code o b ≡ true → o .turn a ≡ o .turn b → a ≡ b
 turn-injective {o} laws a b x y e =
@@ -143,25 +137,20 @@ module _ {o : Ops} (laws : Laws o) {s : Store} (w : Well s) (sound : Sound o s) 
   choice-firm : firm-mask o (union o s low high) ≡ true → (q : ℕ) × (q < 2 ^ s .inputs) × Firm o (choice o s i low high q)
   choice-firm e =
       let n = s .inputs in
-      let m = union o s low high in
-      let f : ℕ → Bool = λ v. not (up m v) || not (firm-code o v) in
-      let r = all-fails 16 f (not-true (all-below 16 f) e) in
-      let v = r .0 in
-      let parts = or-parts (not (up m v)) (not (firm-code o v)) (r .2) in
-      let firm = firm-code-firm o v (not-false (firm-code o v) (parts .1)) in
+      let r = mask-some o (union o s low high) e in
       let inside = sides .inside in
       ⊎-elim
       (λ at. (
         fixed n (i + 1) 0 (at .0),
         chosen-below n i 0 (at .0) inside (omega arith),
-        subst (Firm o) (sym (choice-low o w i low high (at .0) inside (sides .low-within) (sides .low-deeper) ∙ at .2)) firm,
+        subst (Firm o) (sym (choice-low o w i low high (at .0) inside (sides .low-within) (sides .low-deeper) ∙ at .2)) (r .2),
       ))
       (λ at. (
         fixed n (i + 1) 1 (at .0),
         chosen-below n i 1 (at .0) inside (omega arith),
-        subst (Firm o) (sym (choice-high o w i low high (at .0) inside (sides .high-within) (sides .high-deeper) ∙ at .2)) firm,
+        subst (Firm o) (sym (choice-high o w i low high (at .0) inside (sides .high-within) (sides .high-deeper) ∙ at .2)) (r .2),
       ))
-      (mask .reached v (not-false (up m v) (parts .0)))
+      (mask .reached (r .0) (r .1))
 
   -- under NOT the record has the NOT of the choice, and else the choice
   kept-turned : turns o s low high ≡ true → (q : ℕ) → q < 2 ^ s .inputs → choice o s i (kept-low o s low high) (kept-high o s low high) q ≡ o .turn (choice o s i low high q)

@@ -82,6 +82,20 @@ firm-turned {o} laws v l f = (laws .turn-settled v l (f .0), λ e. f .1 (sym e �
 pub firm-unturned : {o : Ops} → Laws o → (v : ℕ) → v < o .count → T (o .settled v) → Firm o (o .turn v) → Firm o v
 firm-unturned {o} laws v l t f = (t, λ e. f .1 (ap (o .turn) e))
 
+-- what a mask that passes a test holds
+pub mask-code : (o : Ops) (m v : ℕ) → settled-mask o m ≡ true → v < 16 → up m v ≡ true → settled-code o v ≡ true
+mask-code o m v e l b =
+    ⊎-elim (λ no-bit. absurd (both-ways (up m v) (not-true (up m v) no-bit) b)) (λ d. d)
+    (or-cases (not (up m v)) (settled-code o v) (all-at 16 (λ v. not (up m v) || settled-code o v) e v l))
+
+pub mask-some : (o : Ops) (m : ℕ) → firm-mask o m ≡ true → (v : ℕ) × (up m v ≡ true) × Firm o v
+mask-some o m e =
+    let f : ℕ → Bool = λ v. not (up m v) || not (firm-code o v) in
+    let r = all-fails 16 f (not-true (all-below 16 f) e) in
+    let v = r .0 in
+    let parts = or-parts (not (up m v)) (not (firm-code o v)) (r .2) in
+    (v, not-false (up m v) (parts .0), firm-code-firm o v (not-false (firm-code o v) (parts .1)))
+
 -- bit v of m is up exactly when h has the value v on some pattern
 pub record Reach (o : Ops) (s : Store) (h m : ℕ) : Type 0 where
   pub reached : (v : ℕ) → up m v ≡ true → Occurs o s h v
@@ -98,12 +112,7 @@ module _ {o : Ops} (laws : Laws o) (s : Store) (h m : ℕ) (codes : (q : ℕ) �
   pub mask-settled : settled-mask o m ≡ true → Settled-alone o s h
   mask-settled e q l =
       let v = value o s h q in
-      let few = codes q in
-      let test = all-at 16 (λ v. not (up m v) || settled-code o v) e v (omega (arith, laws .sixteen-at-most)) in
-      ⊎-elim
-      (λ no-bit. absurd (both-ways (up m v) (not-true (up m v) no-bit) (reach .reaches q l)))
-      (settled-code-settled o v)
-      (or-cases (not (up m v)) (settled-code o v) test)
+      settled-code-settled o v (mask-code o m v e (omega (arith, codes q, laws .sixteen-at-most)) (reach .reaches q l))
 
   pub settled-is-mask : Settled-alone o s h → settled-mask o m ≡ true
   settled-is-mask alone =
@@ -118,12 +127,9 @@ module _ {o : Ops} (laws : Laws o) (s : Store) (h m : ℕ) (codes : (q : ℕ) �
 
   pub mask-firm : firm-mask o m ≡ true → Some-firm o s h
   mask-firm e =
-      let f : ℕ → Bool = λ v. not (up m v) || not (firm-code o v) in
-      let r = all-fails 16 f (not-true (all-below 16 f) e) in
-      let v = r .0 in
-      let parts = or-parts (not (up m v)) (not (firm-code o v)) (r .2) in
-      let at = reach .reached v (not-false (up m v) (parts .0)) in
-      (at .0, at .1, subst (Firm o) (sym (at .2)) (firm-code-firm o v (not-false (firm-code o v) (parts .1))))
+      let r = mask-some o m e in
+      let at = reach .reached (r .0) (r .1) in
+      (at .0, at .1, subst (Firm o) (sym (at .2)) (r .2))
 
   pub firm-is-mask : Some-firm o s h → firm-mask o m ≡ true
   firm-is-mask r =

@@ -5,10 +5,11 @@ use mathlib.Core.Logic.{_⊎_, inl, inr, ⊎-elim}
 use Prim.Native.Nat.{ℕ, zero, suc, _+_, _-_, _*_, _/_, _%_, _^_, _<_}
 use native.Mathlib.Omega.{arith}
 use native.Mathlib.Nat.{zero-div, div-eq-of-lt, div-self}
-use lib.Bits.{bitOr, or-shr, or-mod}
+use lib.Bits.{bitOr, or-lt, or-shr, or-mod}
 use lib.Dec.{eqb}
 use lib.Pow.{pow-pos, pow-lt, pow-add, shl-shr}
-use Rattle.std.proofs.shelf.Tests.{cases-lt, cases-bool, cases-order, cond-true, cond-false, eqb-true, or-cases, or-left, or-right, both-ways}
+use Rattle.std.proofs.shelf.Bits.{pow-below}
+use Rattle.std.proofs.shelf.Tests.{cond-both, cases-lt, cases-bool, cases-order, cond-true, cond-false, eqb-true, or-cases, or-left, or-right, both-ways}
 use Rattle.algebra.specs.Ops.{Ops}
 use Rattle.algebra.specs.Laws.{Laws}
 use Rattle.diagram.specs.Stores.{Store, handle, place, marked, value, up}
@@ -110,6 +111,18 @@ up-turned-from o m (suc k) v e =
     (up-union-cases rest (2 ^ o .turn k) v (ap (λ z. up z v) (sym (cond-true (up m k) (bitOr rest (2 ^ o .turn k)) rest d)) ∙ e)))
     (λ d. up-turned-from o m k v (ap (λ z. up z v) (sym (cond-false (up m k) (bitOr rest (2 ^ o .turn k)) rest d)) ∙ e))
     (cases-bool (up m k))
+
+-- no mask has a bit past the last code
+pub turn-mask-fits : {o : Ops} → Laws o → (m : ℕ) → turn-mask o m < 2 ^ 16
+unfolding turn-below
+turn-mask-fits {o} laws m = fits 16
+  where
+    fits : (k : ℕ) → turn-below o m k < 2 ^ 16
+    fits zero = pow-pos 16
+    fits (suc k) =
+        cond-both (up m k) (bitOr (turn-below o m k) (2 ^ o .turn k)) (turn-below o m k) (λ x. x < 2 ^ 16)
+        (λ _. or-lt 16 (turn-below o m k) (2 ^ o .turn k) (fits k) (pow-below (o .turn k) 16 (omega (arith, laws .turn-below k, laws .sixteen-at-most))))
+        (λ _. fits k)
 
 -- a handle that is the NOT of another reaches the NOT of its values
 pub reach-turned : {o : Ops} → Laws o → (s : Store) (g h m : ℕ) → ((q : ℕ) → value o s g q < o .count)

@@ -2,3 +2,4 @@ pub mod Stores
 pub mod Rules
 pub mod Changes
 pub mod Marks
+pub mod Canonical
