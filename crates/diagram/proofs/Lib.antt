@@ -4,3 +4,17 @@ pub mod Anys
 pub mod Pieces
 pub mod Sieve
 pub mod Counting
+pub mod Bits
+pub mod Values
+pub mod Moves
+pub mod Masks
+pub mod Canon
+pub mod Negates
+pub mod Reaches
+pub mod Firsts
+pub mod Adds
+pub mod Makes
+pub mod Cofactors
+pub mod Subhandles
+pub mod Distinct
+pub mod Backs
