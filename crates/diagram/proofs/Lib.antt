@@ -4,3 +4,5 @@ pub mod Anys
 pub mod Pieces
 pub mod Sieve
 pub mod Counting
+pub mod Links
+pub mod Held
