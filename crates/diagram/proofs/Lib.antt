@@ -6,3 +6,4 @@ pub mod Sieve
 pub mod Counting
 pub mod Links
 pub mod Held
+pub mod Shapes

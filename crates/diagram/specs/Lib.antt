@@ -4,3 +4,6 @@ pub mod Counts
 pub mod Keys
 pub mod Chains
 pub mod Uses
+pub mod Changes
+pub mod Steps
+pub mod Views
