@@ -7,3 +7,4 @@ pub mod Counting
 pub mod Links
 pub mod Held
 pub mod Shapes
+pub mod Epochs

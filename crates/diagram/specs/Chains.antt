@@ -1,21 +1,16 @@
 -- The index of a list of records: a chain of places for each hash of a key. Assumes nothing.
 use mathlib.Core.Path.{_≡_}
 use mathlib.Core.List.{List}
-use Prim.Native.Nat.{ℕ, _+_, _-_, _*_, _/_, _%_, _^_, _<_, _≤_}
-use lib.Bits.{bitAnd}
+use Prim.Native.Nat.{ℕ, _-_, _<_, _≤_}
 use lib.ListN.{length, getD}
 use Rattle.diagram.specs.declared.record.Record.{Record}
+use Rattle.diagram.specs.Buckets.{bucket-of}
 use Rattle.diagram.specs.Keys.{record-at, Keyed}
 
 -- no two places have the same key
 abbrev pub Apart : List Record → Type 0
 Apart rs =
     (i j : ℕ) → (i < j) × (j < length rs) × Keyed (record-at rs i) (record-at rs j .input) (record-at rs j .low) (record-at rs j .high) → ⊥
-
--- which chain a key is in, of mask + 1
-unfoldable pub bucket-of : ℕ → ℕ → ℕ → ℕ → ℕ
-bucket-of mask input low high =
-    bitAnd (((low * 0x9E3779B97F4A7C15 % 2 ^ 64 + high * 0xC2B2AE3D27D4EB4F % 2 ^ 64) % 2 ^ 64 + input * 0x165667B19E3779F9 % 2 ^ 64) % 2 ^ 64 / 2 ^ 32) mask
 
 -- the chain of a record
 abbrev pub chain : ℕ → Record → ℕ

@@ -1,9 +1,13 @@
 pub mod Stores
 pub mod Rules
 pub mod Counts
+pub mod Buckets
 pub mod Keys
 pub mod Chains
 pub mod Uses
 pub mod Changes
 pub mod Steps
 pub mod Views
+pub mod Memos
+pub mod Rows
+pub mod Recalls

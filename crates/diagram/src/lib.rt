@@ -1,10 +1,18 @@
 // Shared decision diagrams of signals: records with NOT marks, one handle for one signal.
 mod handle;
+mod hash;
+mod memo;
 mod places;
 mod record;
+mod rows;
 mod table;
 mod theorems;
 
+pub use memo::Memo;
+pub use memo::NoMemo;
+pub use memo::NoPairs;
 pub use record::Record;
+pub use rows::RowMemo;
+pub use rows::RowPairs;
 pub use table::Table;
 pub use theorems::counting_stands;

@@ -2,23 +2,12 @@ ghost use mathlib.Core.Path.{_≡_};
 ghost use Prim.Native.Nat.{_<_, _≤_};
 ghost use lib.ListN.{length};
 ghost use Rattle.std.specs.Options.{Cases as BySome};
-ghost use Rattle.diagram.specs.Chains.{bucket-of};
+ghost use Rattle.diagram.specs.Buckets.{bucket-of};
 ghost use Rattle.diagram.specs.Keys.{record-at, Absent, Present};
 ghost use Rattle.diagram.specs.Uses.{in-use, room-for};
 use super::Places;
+use crate::hash::bucket;
 use crate::record::Record;
-
-// Which chain a key is in. A multiplicative hash: the middle bits depend on all of the key's.
-pub(super) fn bucket(mask: usize, input: u8, low: u32, high: u32) -> usize
-    ensures value { λ r. ⌜ r ≡ bucket-of mask input low high ⌝ }
-    ensures within { λ r. ⌜ r ≤ mask ⌝ }
-{
-    let a = (low as u64).wrapping_mul(0x9E37_79B9_7F4A_7C15);
-    let b = (high as u64).wrapping_mul(0xC2B2_AE3D_27D4_EB4F);
-    let c = (input as u64).wrapping_mul(0x1656_67B1_9E37_79F9);
-    let h = a.wrapping_add(b).wrapping_add(c);
-    ((h >> 32) as usize) & mask
-}
 
 impl Places {
     pub(crate) fn len(&self) -> usize

@@ -17,5 +17,7 @@ ghost-self c =
     let within : b < length (vec-items (t .heads)) = omega arith in
     let room : length (in-use t) < length (vec-items (t .next)) = omega arith in
     let link : c .index .result .now ≡ getD (vec-items (t .heads)) b 0 = getD-read (vec-items (t .heads)) b _ within (c .index .ensures) 0 in
-    let k = pushed (t .mask) (in-use t) (vec-items (t .heads)) (vec-items (t .next)) (held t) (omega arith) (c .args .r) _ _ _ _ room (c .pre .absent) (omega arith) (c .push-reserved .ensures .items) (c .pre .chain) link in
+    let chains : length (vec-items (t .heads)) ≡ t .mask + 1 = omega arith in
+    let next : c .len-p .result ≡ length (in-use t) = omega arith in
+    let k = pushed (t .mask) (in-use t) (vec-items (t .heads)) (vec-items (t .next)) (held t) chains (c .args .r) _ _ _ _ room (c .pre .absent) next (c .push-reserved .ensures .items) (c .pre .chain) link in
     (t .small, (omega arith, (omega arith, (t .masked, (headed k, (linked k, (k .apart, tt)))))))

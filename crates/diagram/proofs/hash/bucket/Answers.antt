@@ -1,7 +1,7 @@
 use mathlib.Core.Path.{refl}
-use Rattle.diagram.specs.Chains.{bucket-of}
+use Rattle.diagram.specs.Buckets.{bucket-of}
 use Rattle.std.proofs.shelf.Bits.{and-le-r}
-use Rattle.diagram.proofs.places.reads.bucket.Needs as need
+use Rattle.diagram.proofs.hash.bucket.Needs as need
 
 pub returns : need.returns
 unfolding bucket-of
