@@ -18,3 +18,7 @@ pub mod Cofactors
 pub mod Subhandles
 pub mod Distinct
 pub mod Backs
+pub mod Links
+pub mod Held
+pub mod Shapes
+pub mod Epochs

@@ -4,3 +4,15 @@ pub mod Counts
 pub mod Changes
 pub mod Marks
 pub mod Canonical
+pub mod Buckets
+pub mod Keys
+pub mod Chains
+pub mod Uses
+pub mod Steps
+pub mod Views
+pub mod Memos
+pub mod Rows
+pub mod Recalls
+pub mod Faults
+pub mod Outcomes
+pub mod Runs

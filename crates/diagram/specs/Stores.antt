@@ -1,17 +1,24 @@
 -- Handles into a table of records, and what a handle stands for. Assumes nothing.
 use mathlib.Core.Path.{_≡_}
 use mathlib.Core.Bool.{Bool, true, false, cond, not, _&&_, _||_}
+use mathlib.Core.List.{List}
 use Prim.Native.Nat.{ℕ, zero, suc, _+_, _-_, _*_, _/_, _%_, _^_, _<_, _≤_}
 use lib.Dec.{eqb, ltb}
+use lib.ListN.{length}
 use Rattle.algebra.specs.Ops.{Ops}
 use Rattle.netlist.specs.Signals.{bit}
 use Rattle.diagram.specs.declared.record.Record.{Record}
+use Rattle.diagram.specs.Keys.{record-at}
 
 -- what of a table matters: how many inputs, how many places are in use, and what each holds
 pub record Store : Type 0 where
   pub inputs : ℕ
   pub used : ℕ
   pub at : ℕ → Record
+
+-- the store of a list of records
+abbrev pub store : ℕ → List Record → Store
+store inputs rs = record { inputs = inputs; used = length rs; at = record-at rs }
 
 -- handles 0 to 15 are constants; place p has handle 16 + 2 p, and one more with a mark, which means NOT of the signal
 abbrev pub handle : ℕ → ℕ

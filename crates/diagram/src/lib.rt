@@ -1,6 +1,20 @@
 // Shared decision diagrams of signals: records with NOT marks, one handle for one signal.
+mod fault;
+mod handle;
+mod hash;
+mod memo;
+mod places;
 mod record;
+mod rows;
+mod table;
 mod theorems;
 
+pub use fault::TableFault;
+pub use memo::Memo;
+pub use memo::NoMemo;
+pub use memo::NoPairs;
 pub use record::Record;
+pub use rows::RowMemo;
+pub use rows::RowPairs;
+pub use table::Table;
 pub use theorems::counting_stands;

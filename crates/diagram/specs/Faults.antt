@@ -1,0 +1,46 @@
+-- The numbers of the refusals of a table, and the tests of each call, in order, the full table apart. Assumes nothing.
+use mathlib.Core.Bool.{Bool, true, false}
+use Prim.Native.Nat.{ℕ, _+_}
+use lib.Dec.{ltb, leb}
+use Rattle.std.specs.declared.option.Option.{Option}
+use Rattle.std.specs.declared.option.Option.the-variants.{Some, None}
+use Rattle.algebra.specs.Ops.{Ops, known}
+use Rattle.diagram.specs.declared.fault.TableFault.{TableFault}
+use Rattle.diagram.specs.declared.fault.TableFault.the-variants.{TooManyInputs, FewRows, NoSuchHandle, NoSuchInput, NoSuchCode, NoSuchOperator, NoSuchPattern, Full}
+use Rattle.diagram.specs.Stores.{Store}
+use Rattle.diagram.specs.Rules.{lawful}
+
+abbrev pub table-fault-number : TableFault → ℕ
+table-fault-number TooManyInputs = 21
+table-fault-number FewRows = 22
+table-fault-number NoSuchHandle = 23
+table-fault-number NoSuchInput = 24
+table-fault-number NoSuchCode = 25
+table-fault-number NoSuchOperator = 26
+table-fault-number NoSuchPattern = 29
+table-fault-number Full = 31
+
+-- a test that refuses where it fails, before the later tests
+abbrev pub test : Bool → TableFault → Option TableFault → Option TableFault
+test true f later = later
+test false f later = Some f
+
+abbrev pub start-refusal : ℕ → Option TableFault
+start-refusal n = test (leb n 60) TooManyInputs None
+
+abbrev pub input-refusal : Store → ℕ → Option TableFault
+input-refusal s i = test (ltb i (s .inputs)) NoSuchInput None
+
+abbrev pub constant-refusal : Ops → ℕ → Option TableFault
+constant-refusal o v = test (ltb v (o .count)) NoSuchCode None
+
+-- `rows` work rows are lent
+abbrev pub turn-refusal : Ops → Store → ℕ → ℕ → Option TableFault
+turn-refusal o s rows x = test (ltb (s .inputs) rows) FewRows (test (lawful o s x) NoSuchHandle None)
+
+abbrev pub join-refusal : Ops → Store → ℕ → ℕ → ℕ → ℕ → Option TableFault
+join-refusal o s rows k x y =
+    test (ltb (s .inputs) rows) FewRows
+    (test (known o k) NoSuchOperator
+    (test (lawful o s x) NoSuchHandle
+    (test (lawful o s y) NoSuchHandle None)))
