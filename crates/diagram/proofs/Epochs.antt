@@ -27,9 +27,9 @@ told-other e o a b r differs =
     let test = eqb (r .epoch) e && key in
     ⊎-elim
     (λ t.
-      let k = and-parts (eqb (r .op) o) (eqb (r .x) a && eqb (r .y) b) (and-parts (eqb (r .epoch) e) key t .1) in
-      let m = and-parts (eqb (r .x) a) (eqb (r .y) b) (k .1) in
-      absurd (differs (sym (eqb-true (r .op) o (k .0)), sym (eqb-true (r .x) a (m .0)), sym (eqb-true (r .y) b (m .1)))))
+    let k = and-parts (eqb (r .op) o) (eqb (r .x) a && eqb (r .y) b) (and-parts (eqb (r .epoch) e) key t .1) in
+    let m = and-parts (eqb (r .x) a) (eqb (r .y) b) (k .1) in
+    absurd (differs (sym (eqb-true (r .op) o (k .0)), sym (eqb-true (r .x) a (m .0)), sym (eqb-true (r .y) b (m .1)))))
     (λ t. cond-false test (Some (r .h)) None t)
     (cases-bool test)
 
@@ -59,8 +59,8 @@ past-none rows blank i =
 pub past-blank : (n : ℕ) (rows : List Row) → rows ≡ replicate n blank-row → Past 0 rows
 past-blank n rows e =
     past-none rows (λ i l.
-      let k : i < n = omega (arith, ap length e, length-replicate n blank-row) in
-      ap (λ rs. row-at rs i) e ∙ getD-replicate n i blank-row blank-row k)
+    let k : i < n = omega (arith, ap length e, length-replicate n blank-row) in
+    ap (λ rs. row-at rs i) e ∙ getD-replicate n i blank-row blank-row k)
 
 pub past-more : (e f : ℕ) (rows : List Row) → e ≤ f → Past e rows → Past f rows
 past-more e f rows l past i = omega (arith, past i)
@@ -72,11 +72,11 @@ puts-set e mask i rows r own l now =
     record {
       own = inl (ap (λ z. told e (row-at rows′ z) (r .op) (r .x) (r .y)) (sym own) ∙ ap (λ z. told e z (r .op) (r .x) (r .y)) at ∙ told-own e r now);
       others = λ o a b differs.
-        let j = bucket-of mask o a b in
-        ⊎-elim
-        (λ same. inr (ap (λ z. told e (row-at rows′ z) o a b) same ∙ ap (λ z. told e z o a b) at ∙ told-other e o a b r differs))
-        (λ other. inl (ap (λ z. told e z o a b) (getD-set-other rows i j r blank-row other)))
-        (cases-eq j i);
+          let j = bucket-of mask o a b in
+          ⊎-elim
+          (λ same. inr (ap (λ z. told e (row-at rows′ z) o a b) same ∙ ap (λ z. told e z o a b) at ∙ told-other e o a b r differs))
+          (λ other. inl (ap (λ z. told e z o a b) (getD-set-other rows i j r blank-row other)))
+          (cases-eq j i);
     }
 
 -- a pair that is held after one is laid was held before, or is the one laid
@@ -84,17 +84,17 @@ pub laid : {before after : Pairs} {op x y h : ℕ} → Puts before after op x y 
 laid {before} {after} {op} {x} {y} {h} puts o a b k held =
     ⊎-elim
     (λ e. ⊎-elim
-      (λ f. ⊎-elim
-        (λ g.
-          let same : after o a b ≡ after op x y = ap (λ z. after z a b) e ∙ ap (λ z. after op z b) f ∙ ap (after op x) g in
-          ⊎-elim
-          (λ own. inr (e, f, g, cc))
-          (λ own. let z : _≡_ {A = ℕ} 0 1 = cc in absurd (omega arith))
-          (puts .own))
-        (λ g. other (λ k. g (k .2)))
-        (cases-eq b y))
-      (λ f. other (λ k. f (k .1)))
-      (cases-eq a x))
+    (λ f. ⊎-elim
+    (λ g.
+    let same : after o a b ≡ after op x y = ap (λ z. after z a b) e ∙ ap (λ z. after op z b) f ∙ ap (after op x) g in
+    ⊎-elim
+    (λ own. inr (e, f, g, cc))
+    (λ own. let z : _≡_ {A = ℕ} 0 1 = cc in absurd (omega arith))
+    (puts .own))
+    (λ g. other (λ k. g (k .2)))
+    (cases-eq b y))
+    (λ f. other (λ k. f (k .1)))
+    (cases-eq a x))
     (λ e. other (λ k. e (k .0)))
     (cases-eq o op)
   where

@@ -101,14 +101,14 @@ well-back {s} {t} n w l b =
     record {
       few = omega (arith, w .few, b .inputs);
       placed = λ p k.
-        let u : p < n = omega (arith, b .used) in
-        subst (Placed t p) (sym (b .same p u)) (placed-agrees s t n (b .inputs) (b .same) p (s .at p) (omega arith) (w .placed p (omega arith)));
+          let u : p < n = omega (arith, b .used) in
+          subst (Placed t p) (sym (b .same p u)) (placed-agrees s t n (b .inputs) (b .same) p (s .at p) (omega arith) (w .placed p (omega arith)));
       apart = λ p q k m e f g.
-        let u : p < n = omega (arith, b .used) in
-        let v : q < n = omega (arith, b .used) in
-        let x = sym (b .same p u) in
-        let y = b .same q v in
-        w .apart p q (omega arith) (omega arith) (ap (λ r. r .input) x ∙ e ∙ ap (λ r. r .input) y) (ap (λ r. r .low) x ∙ f ∙ ap (λ r. r .low) y) (ap (λ r. r .high) x ∙ g ∙ ap (λ r. r .high) y);
+          let u : p < n = omega (arith, b .used) in
+          let v : q < n = omega (arith, b .used) in
+          let x = sym (b .same p u) in
+          let y = b .same q v in
+          w .apart p q (omega arith) (omega arith) (ap (λ r. r .input) x ∙ e ∙ ap (λ r. r .input) y) (ap (λ r. r .low) x ∙ f ∙ ap (λ r. r .low) y) (ap (λ r. r .high) x ∙ g ∙ ap (λ r. r .high) y);
     }
 
 -- a record that fits, with a key that no place has, goes behind the last place in use
@@ -117,13 +117,13 @@ well-added {s} {t} {r} w fits lacks d =
     record {
       few = omega (arith, d .inputs, w .few);
       placed = λ p l. ⊎-elim
-        (λ k. subst (Placed t p) (sym (d .same p k)) (placed-agrees s t (s .used) (d .inputs) (d .same) p (s .at p) (omega arith) (w .placed p k)))
-        (λ k. new-placed p (omega (arith, d .used)))
-        (cases-lt p (s .used));
+          (λ k. subst (Placed t p) (sym (d .same p k)) (placed-agrees s t (s .used) (d .inputs) (d .same) p (s .at p) (omega arith) (w .placed p k)))
+          (λ k. new-placed p (omega (arith, d .used)))
+          (cases-lt p (s .used));
       apart = λ p q k l e f g. ⊎-elim
-        (λ m. ⊎-elim (λ n. both p q m n e f g) (λ n. absurd (clash p q m (omega (arith, d .used)) e f g)) (cases-lt q (s .used)))
-        (λ m. ⊎-elim (λ n. absurd (clash q p n (omega (arith, d .used)) (sym e) (sym f) (sym g))) (λ n. omega (arith, d .used)) (cases-lt q (s .used)))
-        (cases-lt p (s .used));
+          (λ m. ⊎-elim (λ n. both p q m n e f g) (λ n. absurd (clash p q m (omega (arith, d .used)) e f g)) (cases-lt q (s .used)))
+          (λ m. ⊎-elim (λ n. absurd (clash q p n (omega (arith, d .used)) (sym e) (sym f) (sym g))) (λ n. omega (arith, d .used)) (cases-lt q (s .used)))
+          (cases-lt p (s .used));
     }
   where
     at-new : (p : ℕ) → p ≡ s .used → t .at p ≡ r
@@ -132,14 +132,14 @@ well-added {s} {t} {r} w fits lacks d =
     new-placed : (p : ℕ) → p ≡ s .used → Placed t p (t .at p)
     new-placed p e =
         let here : Placed s p r =
-          record {
-            within = fits .inside;
-            low-before = omega (arith, fits .low-within);
-            high-before = omega (arith, fits .high-within);
-            low-deeper = fits .low-deeper;
-            high-deeper = fits .high-deeper;
-            sides-differ = fits .differ;
-          } in
+        record {
+          within = fits .inside;
+          low-before = omega (arith, fits .low-within);
+          high-before = omega (arith, fits .high-within);
+          low-deeper = fits .low-deeper;
+          high-deeper = fits .high-deeper;
+          sides-differ = fits .differ;
+        } in
         subst (Placed t p) (sym (at-new p e)) (placed-agrees s t (s .used) (d .inputs) (d .same) p r (omega arith) here)
 
     both : (p q : ℕ) → p < s .used → q < s .used → t .at p .input ≡ t .at q .input → t .at p .low ≡ t .at q .low → t .at p .high ≡ t .at q .high → p ≡ q
@@ -201,7 +201,7 @@ pub returned : (a b : ℕ) (rs ts : List Record) (t : Store) → Grows (store a 
 returned a b rs ts t grows back =
     let inputs : b ≡ a = back .inputs ∙ grows .inputs in
     let list : ts ≡ rs =
-      ext-getD blank ts rs (back .used) (λ p l.
-        let k : p < length rs = omega (arith, back .used) in
-        back .same p k ∙ grows .same p k) in
+    ext-getD blank ts rs (back .used) (λ p l.
+    let k : p < length rs = omega (arith, back .used) in
+    back .same p k ∙ grows .same p k) in
     ap (λ n. store n ts) inputs ∙ ap (store a) list

@@ -9,6 +9,10 @@ use Rattle.std.specs.declared.option.Option.the-variants.{Some, None}
 abbrev pub Pairs : Type 0
 Pairs = ℕ → ℕ → ℕ → Option ℕ
 
+-- no handle for any key
+abbrev pub none-kept : Pairs
+none-kept o a b = None
+
 -- the key of the pair then has its handle or none, and every other key what it had or none
 pub record Puts (before after : Pairs) (op x y h : ℕ) : Type 0 where
   pub own : (after op x y ≡ Some h) ⊎ (after op x y ≡ None)

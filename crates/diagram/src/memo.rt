@@ -1,7 +1,5 @@
 ghost use mathlib.Core.Path.{_≡_};
-ghost use Prim.Native.Nat.{ℕ};
-ghost use Rattle.std.specs.declared.option.Option.the-variants.{None};
-ghost use Rattle.diagram.specs.Memos.{Pairs, Puts, No-pairs};
+ghost use Rattle.diagram.specs.Memos.{Pairs, Puts, No-pairs, none-kept};
 
 // Pairs from a key, an operator and two handles, to a handle, at most one for a key (a computed table). A memo may
 // forget any pair at any time that one is laid.
@@ -24,7 +22,7 @@ pub trait Memo {
 pub struct NoMemo;
 
 pub impl Memo for NoMemo as NoPairs {
-    ghost recalls = { λ _ _ _ _. None };
+    ghost recalls = { λ _. none-kept };
 
     fn get(&self, _op: u8, _x: u32, _y: u32) -> Option<u32> {
         None

@@ -4,6 +4,7 @@ ghost use Rattle.diagram.specs.Uses.{in-use};
 use crate::places::Places;
 
 mod changes;
+mod counts;
 mod reads;
 
 // A table of records over some number of inputs. Its shape needs no algebra: sides differ and lie deeper and before

@@ -17,25 +17,13 @@ use std::alloc::Global;
 // The most places that there can be.
 const MOST: usize = 1048576;
 
-// The number of chains for a number of places: the least power of two that is not below it.
-fn chains_for(capacity: usize) -> usize
-    requires { ⌜ capacity ≤ 1048576 ⌝ }
-    ensures { λ r. ⌜ (0 < r) × (r ≤ 2097152) × (capacity ≤ r) ⌝ }
-{
-    let mut chains: usize = 1;
-    while chains < capacity {
-        chains *= 2;
-    }
-    chains
-}
-
 impl Places {
     // No records, and room for `capacity` of them or for the most that there can be. Nothing after this allocates.
     pub(crate) fn new(heap: Global, capacity: usize) -> Result<Places, AllocError>
         ensures { λ r. ⌜ made r (λ t. (in-use t ≡ []) × (room-for t ≡ min capacity 1048576)) ⌝ }
     {
         let capacity = capacity.min(MOST);
-        let chains = chains_for(capacity);
+        let chains = capacity.next_power_of_two();
         let records = Vec::with_capacity(heap, capacity)?;
         let heads = vec![in heap; 0u32; chains]?;
         let next = vec![in heap; 0u32; capacity]?;

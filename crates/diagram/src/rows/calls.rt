@@ -16,7 +16,13 @@ use std::alloc::Global;
 const MOST_BITS: u8 = 22;
 
 // A row that was never written: no epoch is 0.
-const BLANK: Row = Row { x: 0, y: 0, h: 0, epoch: 0, op: 0 };
+const BLANK: Row = Row {
+    x: 0,
+    y: 0,
+    h: 0,
+    epoch: 0,
+    op: 0,
+};
 
 impl RowMemo {
     // A memo of 2 ^ `bits` rows, at most 2 ^ 22, with no pair.
@@ -25,7 +31,11 @@ impl RowMemo {
     {
         let count = 1usize << bits.min(MOST_BITS);
         let rows = vec![in heap; BLANK; count]?;
-        Ok(RowMemo { rows, mask: count - 1, epoch: 1 })
+        Ok(RowMemo {
+            rows,
+            mask: count - 1,
+            epoch: 1,
+        })
     }
 
     // Forgets what every row holds, and begins the epochs anew.
@@ -53,7 +63,13 @@ pub impl Memo for RowMemo as RowPairs {
 
     fn put(&mut self, op: u8, x: u32, y: u32, h: u32) {
         let i = bucket(self.mask, op, x, y);
-        self.rows[i] = Row { x, y, h, epoch: self.epoch, op };
+        self.rows[i] = Row {
+            x,
+            y,
+            h,
+            epoch: self.epoch,
+            op,
+        };
     }
 
     fn clear(&mut self) {

@@ -3,7 +3,7 @@ ghost use Prim.Native.Nat.{_<_, _≤_};
 ghost use Rattle.diagram.specs.Changes.{Within};
 ghost use Rattle.diagram.specs.Steps.{Split};
 ghost use Rattle.diagram.specs.Stores.{level};
-ghost use Rattle.diagram.specs.Views.{view, room};
+ghost use Rattle.diagram.specs.Views.{view};
 use super::Sides;
 use super::Table;
 use crate::handle::is_constant;
@@ -11,26 +11,6 @@ use crate::handle::place_of;
 use crate::record::Record;
 
 impl Table {
-    // How many places are in use.
-    pub fn used(&self) -> usize
-        ensures { λ r. ⌜ r ≡ view (now (self .entry)) .used ⌝ }
-    {
-        self.places.len()
-    }
-
-    // How many places there are.
-    pub fn room(&self) -> usize
-        ensures { λ r. ⌜ r ≡ room (now (self .entry)) ⌝ }
-    {
-        self.places.room()
-    }
-
-    pub fn inputs(&self) -> u8
-        ensures { λ r. ⌜ r ≡ view (now (self .entry)) .inputs ⌝ }
-    {
-        self.inputs
-    }
-
     pub(crate) fn record_at(&self, p: usize) -> Record
         requires { ⌜ p < view (now self) .used ⌝ }
         ensures { λ r. ⌜ r ≡ view (now (self .entry)) .at p ⌝ }
@@ -64,6 +44,9 @@ impl Table {
         if r.input != input {
             return Sides { low: h, high: h };
         }
-        Sides { low: r.low, high: r.high }
+        Sides {
+            low: r.low,
+            high: r.high,
+        }
     }
 }
