@@ -101,6 +101,23 @@ all-booked (s ∷ ss) b = all-booked ss (booked s b)
 abbrev pub step : Signal → Answer → Step
 step s a = record { result = s; answer = a }
 
+-- A handle of which something is booked.
+unfoldable pub In-book : Book → Given → Type 0
+In-book [] g = ⊥
+In-book (e ∷ es) g = cond (eqb (e .number) (g .number)) (Unit {0}) (In-book es g)
+
+abbrev pub If-told : Answer → Type 0 → Type 0
+If-told (told h) P = P
+If-told full P = Unit {0}
+If-told refused P = Unit {0}
+
+-- How many pairs a compare kept: those before the first that it was refused.
+unfoldable pub kept-pairs : List Answer → ℕ
+kept-pairs [] = 0
+kept-pairs (told h ∷ xs) = suc (kept-pairs xs)
+kept-pairs (full ∷ xs) = 0
+kept-pairs (refused ∷ xs) = 0
+
 module _ (o : Ops) (n : ℕ) where
   -- The single results of an event, in order.
   abbrev pub steps : Book → Event → List Step
@@ -109,9 +126,9 @@ module _ (o : Ops) (n : ℕ) where
   steps b (turn g a) = step (turned o (signal-of b g)) a ∷ []
   steps b (join k g h a) = step (joined o k (signal-of b g) (signal-of b h)) a ∷ []
   steps b (check g h a fs) = step (joined o 9 (signal-of b g) (signal-of b h)) a ∷ []
-  steps b (lay ls as) = zipped step (line-signals o n ls) as
-  steps b (compare ls ms as bs cs fs) =
-      zipped step (line-signals o n ls) as
+  steps b (lay ls xs) = zipped step (line-signals o n ls) xs
+  steps b (compare ls ms xs bs cs fs) =
+      zipped step (line-signals o n ls) xs
       ++ (zipped step (line-signals o n ms) bs
       ++ zipped step (zipped (joined o 9) (outs ls (line-signals o n ls)) (outs ms (line-signals o n ms))) cs)
 
@@ -119,24 +136,14 @@ module _ (o : Ops) (n : ℕ) where
   book [] = []
   book (e ∷ es) = all-booked (steps (book es) e) (book es)
 
-  -- A handle of which something is booked.
-  unfoldable pub In-book : Book → Given → Type 0
-  In-book [] g = ⊥
-  In-book (e ∷ es) g = cond (eqb (e .number) (g .number)) (Unit {0}) (In-book es g)
-
-  abbrev pub If-told : Answer → Type 0 → Type 0
-  If-told (told h) P = P
-  If-told full P = Unit {0}
-  If-told refused P = Unit {0}
-
   abbrev pub Gives-booked : Book → Event → Type 0
   Gives-booked b (input i a) = Unit {0}
   Gives-booked b (constant v a) = Unit {0}
   Gives-booked b (turn g a) = If-told a (In-book b g)
   Gives-booked b (join k g h a) = If-told a (In-book b g × In-book b h)
   Gives-booked b (check g h a fs) = If-told a (In-book b g × In-book b h)
-  Gives-booked b (lay ls as) = Unit {0}
-  Gives-booked b (compare ls ms as bs cs fs) = Unit {0}
+  Gives-booked b (lay ls xs) = Unit {0}
+  Gives-booked b (compare ls ms xs bs cs fs) = Unit {0}
 
   -- Provided that each handle given to an accepted call was an answer since the start ..
   unfoldable pub Provided : Run → Type 0
@@ -156,20 +163,14 @@ module _ (o : Ops) (n : ℕ) where
   All-judged room b (s ∷ ss) = Judged room b s × All-judged room (booked s b) ss
 
   -- each accepted check and each kept pair has the finding of its two signals,
-  unfoldable pub kept-pairs : List Answer → ℕ
-  kept-pairs [] = 0
-  kept-pairs (told h ∷ as) = suc (kept-pairs as)
-  kept-pairs (full ∷ as) = 0
-  kept-pairs (refused ∷ as) = 0
-
   abbrev pub True-findings : Book → Event → Type 0
   True-findings b (input i a) = Unit {0}
   True-findings b (constant v a) = Unit {0}
   True-findings b (turn g a) = Unit {0}
   True-findings b (join k g h a) = Unit {0}
   True-findings b (check g h a fs) = If-told a (fs ≡ finding o n (signal-of b g) (signal-of b h) ∷ [])
-  True-findings b (lay ls as) = Unit {0}
-  True-findings b (compare ls ms as bs cs fs) =
+  True-findings b (lay ls xs) = Unit {0}
+  True-findings b (compare ls ms xs bs cs fs) =
       (length fs ≡ kept-pairs cs)
       × (fs ≡ take (kept-pairs cs) (zipped (finding o n) (outs ls (line-signals o n ls)) (outs ms (line-signals o n ms))))
 
