@@ -72,7 +72,7 @@ module _ (bytes : List ℕ) (from n i v : ℕ) where
       record {
         text = ap (λ m. take m (drop from bytes)) k ∙ take-add 25 (25 * length ls) (drop from bytes) ∙ ap (λ y. take 25 (drop from bytes) ++ take (25 * length ls) y) t
           ∙ ap (λ y. y ++ take (25 * length ls) (drop (from + 25) bytes)) (b .head .text ∙ ap (λ m. head-row m i v) (sym e)) ∙ ap (λ y. head-row (length ls) i v ++ y) (b .rows);
-        short = rw e (b .head .small); readable = b .readable; allowed = b .allowed }
+        writable = record { short = rw e (b .head .small); readable = b .readable; allowed = b .allowed } }
 
 -- the first d entries are new, and the others as before
 pub filled : (before after : List Line) (d : ℕ) → d ≤ length after → length after ≡ length before → drop d after ≡ drop d before → Filled before after (take d after)

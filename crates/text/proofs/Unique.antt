@@ -22,7 +22,7 @@ use Rattle.text.specs.declared.fault.ReadFault.the-variants.{Head, TooManyLine
 use Rattle.text.specs.Rows.{row-at, operand-field, Framed, word-of}
 use Rattle.text.specs.Faults.{order, FirstFailed}
 use Rattle.text.specs.Netlists.{takes-one, second-operand, Readable, Allowed, line-row, head-row, HeadRow, HeadTest, LineTest, lines-text, netlist-text}
-use Rattle.text.specs.Readings.{Stands, Begins, Filled, Accepted, HeadRefused, TooMany, LineRefused, Reading, Complete}
+use Rattle.text.specs.Readings.{Stands, Begins, Filled, Accepted, HeadRefused, TooMany, LineRefused, Reading, Reads}
 use Rattle.text.proofs.Guessing.{same-operand}
 use Rattle.text.proofs.Words.{same-kind}
 use Rattle.text.proofs.Tested.{line-number, line-word, line-first, line-second, line-framed, head-number, head-worded, head-framed, same-count, same-inputs, same-values}
@@ -143,11 +143,11 @@ module _ (bytes : List ℕ) (from : ℕ) where
       let t : take (25 + 25 * n) xs ≡ head-row n i v ++ lines-text 0 ls = ap (λ m. take m xs) (sym k) ∙ s .text in
       record {
         head = record {
-          small = s .short; few = let a = s .allowed .0 in omega arith; less = ⊎-elim (λ e. omega arith) (λ e. omega arith) (s .allowed .1);
+          small = s .writable .short; few = let a = s .writable .allowed .0 in omega arith; less = ⊎-elim (λ e. omega arith) (λ e. omega arith) (s .writable .allowed .1);
           text = sym (take-take 25 (25 + 25 * n) xs (omega arith)) ∙ ap (take 25) t ∙ take-at (head-row n i v) _ 25 x };
-        allowed = s .allowed;
+        allowed = s .writable .allowed;
         rows = ap (take (25 * n)) (sym (drop-drop 25 from bytes)) ∙ sym (drop-take 25 (25 * n) xs) ∙ ap (drop 25) t ∙ drop-at (head-row n i v) _ 25 x;
-        readable = s .readable }
+        readable = s .writable .readable }
 
   -- a good HEAD row leaves no other reading
   module _ (n i v : ℕ) (h : HeadRow (row-at bytes from) n i v) (a : Allowed i v) where
@@ -251,8 +251,12 @@ functional bytes from x y z (Err (AtLine j f)) (Err (AtLine k g)) p q =
     (⊎-elim (λ l. absurd (not-later bytes from x y z j k f g l p q)) (λ l. absurd (not-later bytes from x z y k j g f l q p)))
     (cases-order j k)
 
--- so what stands there is what is read
-pub complete : (bytes : List ℕ) (from : ℕ) (x y : List Line) (r : Result Header ReadFault) → Reading bytes from x y r → Complete bytes from x y r
-complete bytes from x y r p i v ls s l =
-    functional bytes from x y (ls ++ drop (length ls) x) r (Ok (record { lines = length ls; inputs = i; values = v })) p
-    (record { lines = ls; counted = refl; stands = s; filled = record { fits = l; after-is = refl } })
+-- what a reading tells in full
+pub reads : (bytes : List ℕ) (from : ℕ) (x y : List Line) (r : Result Header ReadFault) → Reading bytes from x y r → Reads bytes from x y r
+reads bytes from x y r p =
+    record {
+      reading = p;
+      only = λ z q h. functional bytes from x z y q r h p;
+      complete = λ i v ls s l.
+        functional bytes from x y (ls ++ drop (length ls) x) r (Ok (record { lines = length ls; inputs = i; values = v })) p
+        (record { lines = ls; counted = refl; stands = s; filled = record { fits = l; after-is = refl } }) }

@@ -82,6 +82,12 @@ HeadTest s Field = (count : ℕ) × (inputs : ℕ) × (values : ℕ) × HeadRow 
 HeadTest s OutOfTurn = Unit {0}
 HeadTest s Limits = (count : ℕ) × (inputs : ℕ) × (values : ℕ) × HeadRow s count inputs values × Allowed inputs values
 
+-- a netlist that has a text
+pub record Writable (inputs values : ℕ) (lines : List Line) : Type 0 where
+  pub short : length lines < 100000
+  pub readable : All Readable lines
+  pub allowed : Allowed inputs values
+
 -- the rows of lines, the first of which has the number n
 unfoldable pub lines-text : ℕ → List Line → List ℕ
 lines-text n [] = []

@@ -11,7 +11,7 @@ use Rattle.text.specs.Faults.{FirstFailed}
 use Rattle.text.specs.Netlists.{Readable, line-row, LineTest}
 use Rattle.text.specs.Readings.{Accepted, TooMany}
 use Rattle.text.proofs.Begun.{head-fits, line-fits, begins-none, begins-set, stands, filled, rest-set, refused-at, refused-head}
-use Rattle.text.proofs.Unique.{complete}
+use Rattle.text.proofs.Unique.{reads}
 use Rattle.text.proofs.reader.read_netlist.Needs as need
 
 pub returns-in-Break-header : need.returns-in-Break-header
@@ -20,7 +20,7 @@ returns-in-Break-header c =
     let x = c .in-Break-header .ensures tt in
     let p = err-from-errBy (c .from-residual .result) (c .from-residual .ensures .1) in
     let h = refused-head bytes (c .args .from) (c .args .lines .now) (c .from-residual .result) _ _ (p .1) (p .2) x in
-    record { reading = h; complete = complete bytes (c .args .from) (c .args .lines .now) (c .args .lines .now) (c .from-residual .result) h }
+    reads bytes (c .args .from) (c .args .lines .now) (c .args .lines .now) (c .from-residual .result) h
 
 pub returns-then-header-lines : need.returns-then-header-lines
 returns-then-header-lines c =
@@ -29,7 +29,7 @@ returns-then-header-lines c =
           record {
             count = c .in-Continue-header .header .lines; inputs = c .in-Continue-header .header .inputs; values = c .in-Continue-header .header .values;
             head = q .0; allowed = q .1; long = c .if-header-lines .taken; kept = refl } in
-    record { reading = h; complete = complete (c .args .bytes .now) (c .args .from) (c .args .lines .now) (c .args .lines .now) (Err TooManyLines) h }
+    reads (c .args .bytes .now) (c .args .from) (c .args .lines .now) (c .args .lines .now) (Err TooManyLines) h
 
 pub add-at : need.add-at
 add-at c =
@@ -68,7 +68,7 @@ returns-in-Break-line c =
             lines = take d (c .loop-due .lines); begins = i .0; turn = length-take-le d (c .loop-due .lines) (omega arith); counted = c .loop-due-test .taken; room = omega arith;
             failed = subst (λ m. FirstFailed (LineTest d (row-at bytes m)) (x .0)) (i .1) q;
             filled = filled (c .args .lines .now) (c .loop-due .lines) d (omega arith) (c .loop-due .kept .lines) (i .3) }) in
-    record { reading = h; complete = complete bytes (c .args .from) (c .args .lines .now) (c .loop-due .lines) (c .from-residual-in-Break-line .result) h }
+    reads bytes (c .args .from) (c .args .lines .now) (c .loop-due .lines) (c .from-residual-in-Break-line .result) h
 
 pub returns : need.returns
 returns c =
@@ -81,4 +81,4 @@ returns c =
             lines = take d (c .loop-due .lines); counted = k ∙ e;
             stands = stands (c .args .bytes .now) (c .args .from) _ _ _ (take d (c .loop-due .lines)) (k ∙ e) (i .0);
             filled = filled (c .args .lines .now) (c .loop-due .lines) d (omega arith) (c .loop-due .kept .lines) (i .3) } in
-    record { reading = h; complete = complete (c .args .bytes .now) (c .args .from) (c .args .lines .now) (c .loop-due .lines) (Ok (c .in-Continue-header .header)) h }
+    reads (c .args .bytes .now) (c .args .from) (c .args .lines .now) (c .loop-due .lines) (Ok (c .in-Continue-header .header)) h
