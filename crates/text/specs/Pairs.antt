@@ -33,7 +33,7 @@ pub record PairAccepted (bytes : List ℕ) (x x′ y y′ : List Line) (pair : P
   pub alike : Alike (pair .first) (pair .second)
   pub ended : size (pair .first) + size (pair .second) ≡ length bytes
   pub text : bytes ≡ netlist-text (pair .first .inputs) (pair .first .values) (both .first .lines)
-    ++ netlist-text (pair .second .inputs) (pair .second .values) (both .second .lines)
+      ++ netlist-text (pair .second .inputs) (pair .second .values) (both .second .lines)
 
 -- the first netlist is refused, and the second one not looked at
 pub record FirstRefused (bytes : List ℕ) (x x′ y y′ : List Line) (fault : ReadFault) : Type 0 where
@@ -74,6 +74,6 @@ pub record ReadsPair (bytes : List ℕ) (x x′ y y′ : List Line) (r : Result 
   pub reading : PairReading bytes x x′ y y′ r
   pub only : (x″ y″ : List Line) (q : Result Pair PairFault) → PairReading bytes x x″ y y″ q → (q ≡ r) × (x″ ≡ x′) × (y″ ≡ y′)
   pub complete : (inputs values : ℕ) (ls ms : List Line) → Writable inputs values ls → Writable inputs values ms → length ls ≤ length x → length ms ≤ length y
-    → bytes ≡ netlist-text inputs values ls ++ netlist-text inputs values ms
-    → (r ≡ Ok (record { first = record { lines = length ls; inputs = inputs; values = values }; second = record { lines = length ms; inputs = inputs; values = values } }))
+      → bytes ≡ netlist-text inputs values ls ++ netlist-text inputs values ms
+      → (r ≡ Ok (record { first = record { lines = length ls; inputs = inputs; values = values }; second = record { lines = length ms; inputs = inputs; values = values } }))
       × (x′ ≡ ls ++ drop (length ls) x) × (y′ ≡ ms ++ drop (length ms) y)

@@ -80,4 +80,4 @@ pub record Reads (bytes : List ℕ) (from : ℕ) (before after : List Line) (r :
   pub reading : Reading bytes from before after r
   pub only : (later : List Line) (q : Result Header ReadFault) → Reading bytes from before later q → (q ≡ r) × (later ≡ after)
   pub complete : (inputs values : ℕ) (lines : List Line) → Stands bytes from inputs values lines → length lines ≤ length before
-    → (r ≡ Ok (record { lines = length lines; inputs = inputs; values = values })) × (after ≡ lines ++ drop (length lines) before)
+      → (r ≡ Ok (record { lines = length lines; inputs = inputs; values = values })) × (after ≡ lines ++ drop (length lines) before)

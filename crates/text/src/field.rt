@@ -25,7 +25,11 @@ fn shown_digit(n: u64, place: u64) -> u8
     requires { ⌜ 0 < place ⌝ }
     ensures { λ r. ⌜ r ≡ shown n place ⌝ }
 {
-    if n < place { b' ' } else { b'0' + (n / place % 10) as u8 }
+    if n < place {
+        b' '
+    } else {
+        b'0' + (n / place % 10) as u8
+    }
 }
 
 // A number in five columns.
@@ -64,7 +68,11 @@ pub(crate) fn operand_bytes(operand: Option<u32>) -> [u8; 6]
 fn value(b: u8) -> u32
     ensures { λ r. ⌜ r ≡ digit-value b ⌝ ∗ ⌜ r < 10 ⌝ }
 {
-    if b >= b'0' && b <= b'9' { (b - b'0') as u32 } else { 0 }
+    if b >= b'0' && b <= b'9' {
+        (b - b'0') as u32
+    } else {
+        0
+    }
 }
 
 fn guess5(s: &[u8]) -> u32
@@ -88,7 +96,11 @@ pub(crate) fn read_number(s: &[u8]) -> Option<u32>
     ensures { λ r. ⌜ BySome r ((n : ℕ) → n < 100000 → now (s .entry) ≡ number-field n → ⊥) (λ n. (n < 100000) × (now (s .entry) ≡ number-field n)) ⌝ }
 {
     let n = guess5(s);
-    if same(s, &number_bytes(n as u64)) { Some(n) } else { None }
+    if same(s, &number_bytes(n as u64)) {
+        Some(n)
+    } else {
+        None
+    }
 }
 
 // An operand that is in use.
@@ -97,7 +109,11 @@ pub(crate) fn read_operand(s: &[u8]) -> Option<u32>
     ensures { λ r. ⌜ BySome r ((n : ℕ) → n < 1000000 → now (s .entry) ≡ operand-field (Some n) → ⊥) (λ n. (n < 1000000) × (now (s .entry) ≡ operand-field (Some n))) ⌝ }
 {
     let n = guess6(s);
-    if same(s, &operand_bytes(Some(n))) { Some(n) } else { None }
+    if same(s, &operand_bytes(Some(n))) {
+        Some(n)
+    } else {
+        None
+    }
 }
 
 // The kind that a word names.

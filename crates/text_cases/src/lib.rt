@@ -41,7 +41,8 @@ mod tests {
 
     #[test]
     fn reads_a_netlist() -> Result<(), Fail> {
-        let text = b"    4 HEAD       2     5\n    0 INPUT      0     -\n    1 CONST      3     -\n    2 IFOR       0     1\n    3 OUT        2     -\n";
+        let text =
+            b"    4 HEAD       2     5\n    0 INPUT      0     -\n    1 CONST      3     -\n    2 IFOR       0     1\n    3 OUT        2     -\n";
         let mut lines = [EMPTY; 5];
         match read_netlist(text, 0, &mut lines) {
             Ok(header) => {
@@ -73,20 +74,42 @@ mod tests {
 
     #[test]
     fn refuses_lines() -> Result<(), Fail> {
-        check_eq(refusal(b"    1 HEAD       2     5\n    0 INPUT      0     -"), 11)?;
-        check_eq(refusal(b"    1 HEAD       2     5\n    0 HEAD       2     5\n"), 13)?;
-        check_eq(refusal(b"    1 HEAD       2     5\n    0 INPUT      0     0\n"), 12)?;
-        check_eq(refusal(b"    1 HEAD       2     5\n    0 AND        0     -\n"), 12)?;
-        check_eq(refusal(b"    1 HEAD       2     5\n    1 INPUT      0     -\n"), 14)?;
-        check_eq(refusal(b"    1 HEAD       2     5\n    0 INPUT      0     -\n"), 0)
+        check_eq(
+            refusal(b"    1 HEAD       2     5\n    0 INPUT      0     -"),
+            11,
+        )?;
+        check_eq(
+            refusal(b"    1 HEAD       2     5\n    0 HEAD       2     5\n"),
+            13,
+        )?;
+        check_eq(
+            refusal(b"    1 HEAD       2     5\n    0 INPUT      0     0\n"),
+            12,
+        )?;
+        check_eq(
+            refusal(b"    1 HEAD       2     5\n    0 AND        0     -\n"),
+            12,
+        )?;
+        check_eq(
+            refusal(b"    1 HEAD       2     5\n    1 INPUT      0     -\n"),
+            14,
+        )?;
+        check_eq(
+            refusal(b"    1 HEAD       2     5\n    0 INPUT      0     -\n"),
+            0,
+        )
     }
 
     #[test]
     fn refuses_pairs() -> Result<(), Fail> {
         check(pair_refusal(b"    0 HEAD       2     5\n") == (11, 2, 99))?;
         check(pair_refusal(b"    1 HEAD       2     5\n    1 INPUT      0     -\n") == (14, 1, 0))?;
-        check(pair_refusal(b"    0 HEAD       2     5\n    0 HEAD       2     5\n\n") == (16, 0, 99))?;
-        check(pair_refusal(b"    0 HEAD       2     5\n    0 HEAD       2     2\n") == (41, 0, 99))?;
+        check(
+            pair_refusal(b"    0 HEAD       2     5\n    0 HEAD       2     5\n\n") == (16, 0, 99),
+        )?;
+        check(
+            pair_refusal(b"    0 HEAD       2     5\n    0 HEAD       2     2\n") == (41, 0, 99),
+        )?;
         check(pair_refusal(b"    0 HEAD       2     5\n    0 HEAD       2     5\n") == (0, 0, 99))
     }
 

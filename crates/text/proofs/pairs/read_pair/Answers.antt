@@ -28,8 +28,10 @@ returns-in-Break-two c =
     let p = err-from-errBy (c .from-residual-in-Break-two .result) (c .from-residual-in-Break-two .ensures .1) in
     pair-refused bytes (c .args .first .now) (c .read-netlist .last .lines) y y′ (c .from-residual-in-Break-two .result) _ (Second (x .0)) (p .1) (p .2 ∙ x .1)
     (record {
-      header = g; first = subst (Reading bytes 0 (c .args .first .now) (c .read-netlist .last .lines)) (c .in-Continue-one .ensures tt) (c .read-netlist .ensures .reading);
-      refused = subst (λ n. Reading bytes n y y′ (Err (x .0))) (c .text-size-from .ensures) (subst (Reading bytes (c .text-size-from .result) y y′) (x .2) (c .read-netlist-2 .ensures .reading)) })
+      header = g;
+      first = subst (Reading bytes 0 (c .args .first .now) (c .read-netlist .last .lines)) (c .in-Continue-one .ensures tt) (c .read-netlist .ensures .reading);
+      refused = subst (λ n. Reading bytes n y y′ (Err (x .0))) (c .text-size-from .ensures) (subst (Reading bytes (c .text-size-from .result) y y′) (x .2) (c .read-netlist-2 .ensures .reading));
+    })
 
 pub returns-then-end-bytes : need.returns-then-end-bytes
 returns-then-end-bytes c =
@@ -41,7 +43,7 @@ returns-then-end-bytes c =
     let g = c .in-Continue-one .one in
     let k = c .in-Continue-two .two in
     let b = both-read bytes x x′ y y′ (c .read-netlist .result) (c .read-netlist-2 .result) g k (c .text-size-from .result) (c .read-netlist .ensures .reading) (c .in-Continue-one .ensures tt)
-          (c .text-size-from .ensures) (c .read-netlist-2 .ensures .reading) (c .in-Continue-two .ensures tt) in
+    (c .text-size-from .ensures) (c .read-netlist-2 .ensures .reading) (c .in-Continue-two .ensures tt) in
     reads-pair bytes x x′ y y′ (Err Trailing) (record { one = g; two = k; both = b; more = omega arith })
 
 pub returns-then-not-alike : need.returns-then-not-alike
@@ -54,7 +56,7 @@ returns-then-not-alike c =
     let g = c .in-Continue-one .one in
     let k = c .in-Continue-two .two in
     let b = both-read bytes x x′ y y′ (c .read-netlist .result) (c .read-netlist-2 .result) g k (c .text-size-from .result) (c .read-netlist .ensures .reading) (c .in-Continue-one .ensures tt)
-          (c .text-size-from .ensures) (c .read-netlist-2 .ensures .reading) (c .in-Continue-two .ensures tt) in
+    (c .text-size-from .ensures) (c .read-netlist-2 .ensures .reading) (c .in-Continue-two .ensures tt) in
     let f = accepted-fits bytes (size g) y y′ k (b .second) in
     reads-pair bytes x x′ y y′ (Err Heads)
     (record { one = g; two = k; both = b; ended = omega arith; differ = not-from-decides (c .alike .result) (c .alike .ensures) (c .if-not-alike .taken) })
@@ -69,7 +71,7 @@ returns c =
     let g = c .in-Continue-one .one in
     let k = c .in-Continue-two .two in
     let b = both-read bytes x x′ y y′ (c .read-netlist .result) (c .read-netlist-2 .result) g k (c .text-size-from .result) (c .read-netlist .ensures .reading) (c .in-Continue-one .ensures tt)
-          (c .text-size-from .ensures) (c .read-netlist-2 .ensures .reading) (c .in-Continue-two .ensures tt) in
+    (c .text-size-from .ensures) (c .read-netlist-2 .ensures .reading) (c .in-Continue-two .ensures tt) in
     let f = accepted-fits bytes (size g) y y′ k (b .second) in
     let e : size g + size k ≡ length bytes = omega arith in
     reads-pair bytes x x′ y y′ (Ok (record { first = g; second = k }))

@@ -26,9 +26,15 @@ pub returns-then-header-lines : need.returns-then-header-lines
 returns-then-header-lines c =
     let q = c .in-Continue-header .ensures tt in
     let h : TooMany (c .args .bytes .now) (c .args .from) (c .args .lines .now) (c .args .lines .now) =
-          record {
-            count = c .in-Continue-header .header .lines; inputs = c .in-Continue-header .header .inputs; values = c .in-Continue-header .header .values;
-            head = q .0; allowed = q .1; long = c .if-header-lines .taken; kept = refl } in
+    record {
+      count = c .in-Continue-header .header .lines;
+      inputs = c .in-Continue-header .header .inputs;
+      values = c .in-Continue-header .header .values;
+      head = q .0;
+      allowed = q .1;
+      long = c .if-header-lines .taken;
+      kept = refl;
+    } in
     reads (c .args .bytes .now) (c .args .from) (c .args .lines .now) (c .args .lines .now) (Err TooManyLines) h
 
 pub add-at : need.add-at
@@ -63,11 +69,18 @@ returns-in-Break-line c =
     let p = err-from-errBy (c .from-residual-in-Break-line .result) (c .from-residual-in-Break-line .ensures .1) in
     let q = cases-at-err (λ l. Readable l × (row-at bytes at ≡ line-row d l)) (FirstFailed (LineTest d (row-at bytes at))) (x .0) (x .2) (c .read-line .ensures) in
     let h = refused-at bytes (c .args .from) (c .args .lines .now) (c .loop-due .lines) _ _ d (x .0) (p .1) (p .2 ∙ x .1)
-          (record {
-            count = c .in-Continue-header .header .lines; inputs = c .in-Continue-header .header .inputs; values = c .in-Continue-header .header .values;
-            lines = take d (c .loop-due .lines); begins = i .0; turn = length-take-le d (c .loop-due .lines) (omega arith); counted = c .loop-due-test .taken; room = omega arith;
-            failed = subst (λ m. FirstFailed (LineTest d (row-at bytes m)) (x .0)) (i .1) q;
-            filled = filled (c .args .lines .now) (c .loop-due .lines) d (omega arith) (c .loop-due .kept .lines) (i .3) }) in
+    (record {
+      count = c .in-Continue-header .header .lines;
+      inputs = c .in-Continue-header .header .inputs;
+      values = c .in-Continue-header .header .values;
+      lines = take d (c .loop-due .lines);
+      begins = i .0;
+      turn = length-take-le d (c .loop-due .lines) (omega arith);
+      counted = c .loop-due-test .taken;
+      room = omega arith;
+      failed = subst (λ m. FirstFailed (LineTest d (row-at bytes m)) (x .0)) (i .1) q;
+      filled = filled (c .args .lines .now) (c .loop-due .lines) d (omega arith) (c .loop-due .kept .lines) (i .3);
+    }) in
     reads bytes (c .args .from) (c .args .lines .now) (c .loop-due .lines) (c .from-residual-in-Break-line .result) h
 
 pub returns : need.returns
@@ -77,8 +90,10 @@ returns c =
     let e : d ≡ c .in-Continue-header .header .lines = omega arith in
     let k = length-take-le d (c .loop-due .lines) (omega arith) in
     let h : Accepted (c .args .bytes .now) (c .args .from) (c .args .lines .now) (c .loop-due .lines) (c .in-Continue-header .header) =
-          record {
-            lines = take d (c .loop-due .lines); counted = k ∙ e;
-            stands = stands (c .args .bytes .now) (c .args .from) _ _ _ (take d (c .loop-due .lines)) (k ∙ e) (i .0);
-            filled = filled (c .args .lines .now) (c .loop-due .lines) d (omega arith) (c .loop-due .kept .lines) (i .3) } in
+    record {
+      lines = take d (c .loop-due .lines);
+      counted = k ∙ e;
+      stands = stands (c .args .bytes .now) (c .args .from) _ _ _ (take d (c .loop-due .lines)) (k ∙ e) (i .0);
+      filled = filled (c .args .lines .now) (c .loop-due .lines) d (omega arith) (c .loop-due .kept .lines) (i .3);
+    } in
     reads (c .args .bytes .now) (c .args .from) (c .args .lines .now) (c .loop-due .lines) (Ok (c .in-Continue-header .header)) h
