@@ -1,16 +1,15 @@
 -- Netlists row by row: the rows that stand so far, one more, and the whole text. Assumes nothing.
 use mathlib.Core.Path.{_≡_, refl, sym, ap, subst, _∙_}
 use mathlib.Core.List.{List, [], _∷_, _++_, append-assoc, append-nil}
-use Prim.Native.Nat.{ℕ, suc, _+_, _*_, _-_, _<_, _≤_}
+use Prim.Native.Nat.{ℕ, suc, _+_, _*_, _<_, _≤_}
 use native.Mathlib.Omega.{arith}
 use lib.ListN.{length, take, drop, set, length-take, length-drop}
 use lib.Seq.{take-add, drop-drop}
-use Rattle.std.specs.shelf.Lists.{All}
 use Rattle.std.proofs.shelf.Lists.{length-push, length-take-le, take-append-drop, take-more-set, drop-set-lt}
 use Rattle.std.proofs.shelf.Elements.{all-push}
 use Rattle.netlist.specs.declared.line.Line.{Line}
 use Rattle.std.specs.declared.result.Result.{Result}
-use Rattle.std.specs.declared.result.Result.the-variants.{Ok, Err}
+use Rattle.std.specs.declared.result.Result.the-variants.{Err}
 use Rattle.text.specs.declared.header.Header.{Header}
 use Rattle.text.specs.declared.fault.RowFault.{RowFault}
 use Rattle.text.specs.declared.fault.ReadFault.{ReadFault}

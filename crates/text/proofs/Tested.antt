@@ -1,13 +1,11 @@
 -- Which rows fail which test, and that the row of a line, and a HEAD row, hold one content at most. Assumes nothing.
 use mathlib.Core.Path.{_≡_, refl, sym, ap, subst, _∙_}
-use mathlib.Core.Bool.{Bool, true, false, cond}
+use mathlib.Core.Bool.{true}
 use mathlib.Core.List.{List}
-use Prim.Native.Nat.{ℕ, _<_, _≤_}
+use Prim.Native.Nat.{ℕ, _<_}
 use native.Mathlib.Omega.{arith}
-use lib.ListN.{length, take, drop}
-use Rattle.std.specs.declared.option.Option.{Option}
-use Rattle.std.specs.declared.option.Option.the-variants.{Some, None}
-use Rattle.std.proofs.shelf.Tests.{cases-bool}
+use lib.ListN.{take, drop}
+use Rattle.std.specs.declared.option.Option.the-variants.{Some}
 use Rattle.netlist.specs.declared.line.Line.{Line}
 use Rattle.text.specs.declared.fault.RowFault.{RowFault}
 use Rattle.text.specs.declared.fault.RowFault.the-variants.{Incomplete, Word, Field, OutOfTurn, Limits}

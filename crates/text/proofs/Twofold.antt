@@ -2,7 +2,7 @@
 use mathlib.Core.Path.{_≡_, refl, sym, ap, subst, _∙_}
 use mathlib.Core.Bool.{Bool, true, false, cond, _&&_}
 use mathlib.Core.List.{List, [], _∷_, _++_}
-use Prim.Native.Nat.{ℕ, suc, _+_, _*_, _-_, _<_, _≤_}
+use Prim.Native.Nat.{ℕ, suc, _+_, _*_, _≤_}
 use native.Mathlib.Omega.{arith}
 use lib.Dec.{eqb, ltb}
 use lib.ListN.{length, take, drop, length-take, length-drop}
@@ -20,8 +20,8 @@ use Rattle.text.specs.declared.fault.ReadFault.{ReadFault}
 use Rattle.text.specs.declared.fault.PairFault.{PairFault}
 use Rattle.text.specs.declared.fault.PairFault.the-variants.{First, Second, Trailing, Heads}
 use Rattle.text.specs.Netlists.{Readable, Writable, line-row, head-row, lines-text, netlist-text}
-use Rattle.text.specs.Readings.{Stands, Begins, Accepted, Reading}
-use Rattle.text.specs.Pairs.{size, Alike, BothAccepted, PairAccepted, FirstRefused, SecondRefused, Followed, Unlike, PairReading, ReadsPair}
+use Rattle.text.specs.Readings.{Stands, Accepted, Reading}
+use Rattle.text.specs.Pairs.{size, Alike, BothAccepted, PairAccepted, PairReading, ReadsPair}
 use Rattle.text.proofs.Tested.{line-framed, head-framed}
 use Rattle.text.proofs.Begun.{head-fits}
 use Rattle.text.proofs.Unique.{begun, functional}

@@ -1,14 +1,13 @@
 -- Bytes have one reading at most. Assumes nothing.
 use mathlib.Core.Path.{_≡_, refl, sym, ap, subst, _∙_}
-use mathlib.Core.Bool.{Bool, true, false, cond}
+use mathlib.Core.Bool.{true}
 use mathlib.Core.List.{List, [], _∷_, _++_}
-use mathlib.Core.Logic.{_⊎_, inl, inr, ⊎-elim}
+use mathlib.Core.Logic.{⊎-elim}
 use Prim.Native.Nat.{ℕ, zero, suc, _+_, _*_, _-_, _<_, _≤_}
 use native.Mathlib.Omega.{arith}
 use lib.ListN.{length, take, drop}
-use lib.Seq.{take-add, drop-drop, take-at, drop-at}
+use lib.Seq.{drop-drop, take-at, drop-at}
 use Rattle.std.specs.shelf.Lists.{All}
-use Rattle.std.specs.declared.option.Option.the-variants.{Some, None}
 use Rattle.std.specs.declared.result.Result.{Result}
 use Rattle.std.specs.declared.result.Result.the-variants.{Ok, Err}
 use Rattle.std.proofs.shelf.Lists.{take-take, drop-take}
@@ -25,7 +24,7 @@ use Rattle.text.specs.Netlists.{takes-one, second-operand, Readable, Allowed, 
 use Rattle.text.specs.Readings.{Stands, Begins, Filled, Accepted, HeadRefused, TooMany, LineRefused, Reading, Reads}
 use Rattle.text.proofs.Guessing.{same-operand}
 use Rattle.text.proofs.Words.{same-kind}
-use Rattle.text.proofs.Tested.{line-number, line-word, line-first, line-second, line-framed, head-number, head-worded, head-framed, same-count, same-inputs, same-values}
+use Rattle.text.proofs.Tested.{line-number, line-word, line-first, line-second, line-framed, head-worded, head-framed, same-count, same-inputs, same-values}
 
 -- one first fault
 fault-of : ℕ → RowFault

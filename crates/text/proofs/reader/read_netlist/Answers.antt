@@ -1,7 +1,6 @@
-use mathlib.Core.Path.{_≡_, refl, sym, ap, subst, _∙_}
-use Prim.Native.Nat.{_+_, _*_, _<_, _≤_}
+use mathlib.Core.Path.{_≡_, refl, subst, _∙_}
 use native.Mathlib.Omega.{arith}
-use lib.ListN.{length, take, drop}
+use lib.ListN.{take}
 use Rattle.std.proofs.shelf.Lists.{length-set, length-take-le}
 use Rattle.std.proofs.shelf.Results.{cases-at-ok, cases-at-err, err-from-errBy}
 use Rattle.std.specs.declared.result.Result.the-variants.{Ok, Err}

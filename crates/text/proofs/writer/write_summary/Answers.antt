@@ -1,7 +1,5 @@
-use Prim.Native.Nat.{_<_, _+_}
-use mathlib.Core.Path.{_≡_, refl}
+use mathlib.Core.Path.{refl}
 use native.Mathlib.Omega.{arith}
-use lib.ListN.{length}
 use Rattle.std.proofs.shelf.Ways.{not-from-decides}
 use Rattle.text.proofs.Writing.{written-more, written-as}
 use Rattle.text.proofs.Found.{summary-size, summary-is}
