@@ -114,8 +114,9 @@ fn regrade_pairs<G: Algebra>(algebra: &G, number: u64, left: &[u8], right: &[u8]
     }
 }
 
-// The tests of a comparison, in order; the number of pairs where all pass.
-fn check_pairs<G: Algebra>(algebra: &G, inputs: u8, first: &[Line], second: &[Line], room: usize, rows: usize) -> Result<usize, ComparisonFault>
+// The tests of a comparison, in order, with room for so many values and rows for so many findings; the number of pairs
+// where all pass.
+pub fn check_comparison<G: Algebra>(algebra: &G, inputs: u8, first: &[Line], second: &[Line], room: usize, rows: usize) -> Result<usize, ComparisonFault>
     ensures { λ r. ⌜ ByOk r
         (λ pairs. (pairs ≡ out-count (now (first .entry))) × Accepted ops inputs (now (first .entry)) (now (second .entry)) room rows)
         (λ e. Refused ops inputs (now (first .entry)) (now (second .entry)) room rows e) ⌝ }
@@ -182,7 +183,7 @@ pub fn compare_by_patterns<G: Algebra>(algebra: &G, inputs: u8, first: &[Line], 
         (λ e. Refused ops inputs (now (first .entry)) (now (second .entry)) (length (now (values .entry))) (length (now (found .entry))) e × (now (found .exit) ≡ now (found .entry)) × (now (values .exit) ≡ now (values .entry))) ⌝ }
     ensures rest { λ _. ⌜ drop (length (now (first .entry)) + length (now (second .entry))) (now (values .exit)) ≡ drop (length (now (first .entry)) + length (now (second .entry))) (now (values .entry)) ⌝ }
 {
-    let pairs = check_pairs(algebra, inputs, first, second, values.len(), found.len())?;
+    let pairs = check_comparison(algebra, inputs, first, second, values.len(), found.len())?;
     try_patterns(algebra, inputs, first, second, values, &mut found[0..pairs]);
     Ok(pairs)
 }
