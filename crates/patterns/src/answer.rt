@@ -169,3 +169,71 @@ pub fn answer(heap: Global, input: &[u8]) -> Result<Vec<u8>, AllocError>
     out.truncate(end);
     Ok(out)
 }
+
+#[cfg(test)]
+mod tests {
+    use super::*;
+    use std::test::*;
+
+    // An input, and what is printed for it.
+    struct Case {
+        input: &'static [u8],
+        printed: &'static [u8],
+    }
+
+    const CASES: [Case; 10] = [
+        // a floating wire taken for 0
+        Case {
+            input: b"    4 HEAD       2     5\n    0 INPUT      0     -\n    1 CONST      3     -\n    2 IFOR       0     1\n    3 OUT        2     -\n    2 HEAD       2     5\n    0 INPUT      0     -\n    1 OUT        0     -\n",
+            printed: b"    1 TRIED      4\n    0 1 Z 0 00\n",
+        },
+        // no inputs: the one pattern is empty
+        Case {
+            input: b"    2 HEAD       0     2\n    0 CONST      1     -\n    1 OUT        0     -\n    2 HEAD       0     2\n    0 CONST      1     -\n    1 OUT        0     -\n",
+            printed: b"    1 TRIED      1\n    0 0\n",
+        },
+        Case {
+            input: b"",
+            printed: b"   11 FAULT      1     -\n",
+        },
+        Case {
+            input: b"\0\0\0\0\0\0\0\0\0\0\0\0\0\0\0\0\0\0\0\0\0\0\0\0\0",
+            printed: b"   11 FAULT      1     -\n",
+        },
+        // netlists of no lines have no pairs
+        Case {
+            input: b"    0 HEAD       1     2\n    0 HEAD       1     2\n",
+            printed: b"    0 TRIED      2\n",
+        },
+        Case {
+            input: b"    0 HEAD       1     2\n    0 HEAD       1     2\n\n",
+            printed: b"   16 FAULT      0     -\n",
+        },
+        Case {
+            input: b"    0 HEAD       1     2\n    0 HEAD       1     5\n",
+            printed: b"   41 FAULT      0     -\n",
+        },
+        Case {
+            input: b"    2 HEAD       1     2\n    0 INPUT      0     -\n    1 OUT        0     -\n    0 HEAD       1     2\n",
+            printed: b"   42 FAULT      0     -\n",
+        },
+        // two values lack WIRE
+        Case {
+            input: b"    0 HEAD       1     2\n    2 HEAD       1     2\n    0 INPUT      0     -\n    1 WIRE       0     0\n",
+            printed: b"   26 FAULT      2     1\n",
+        },
+        Case {
+            input: b"    0 HEAD      17     2\n    0 HEAD      17     2\n",
+            printed: b"more than 16 inputs: too many patterns to try\n",
+        },
+    ];
+
+    #[test]
+    fn prints(rt: LibcRuntime) -> Result<(), Fail> {
+        for case in CASES.iter() {
+            let printed = answer(rt.alloc(), case.input)?;
+            check(printed.as_slice() == case.printed)?;
+        }
+        Ok(())
+    }
+}
