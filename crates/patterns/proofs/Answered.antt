@@ -48,9 +48,9 @@ module _ (bytes : List ℕ) (x x′ y y′ : List Line) (ex : x ≡ blank-lines)
       let ls = lines-read bytes _ _ x′ (pair .first) (a2 .both .first) in
       let ms = lines-read bytes _ _ y′ (pair .second) (a2 .both .second) in
       let same : text ≡ compared (algebra-of (pair .first .values)) (pair .first .inputs) (a2 .both .first .lines) (a2 .both .second .lines) =
-          e
-          ∙ ap (λ q. compared q (pair .first .inputs) (take (pair .first .lines - 0) x′) (take (pair .second .lines - 0) y′)) eo
-          ∙ ap (λ l. compared (algebra-of (pair .first .values)) (pair .first .inputs) l (take (pair .second .lines - 0) y′)) ls
-          ∙ ap (λ l. compared (algebra-of (pair .first .values)) (pair .first .inputs) (a2 .both .first .lines) l) ms
+      e
+      ∙ ap (λ q. compared q (pair .first .inputs) (take (pair .first .lines - 0) x′) (take (pair .second .lines - 0) y′)) eo
+      ∙ ap (λ l. compared (algebra-of (pair .first .values)) (pair .first .inputs) l (take (pair .second .lines - 0) y′)) ls
+      ∙ ap (λ l. compared (algebra-of (pair .first .values)) (pair .first .inputs) (a2 .both .first .lines) l) ms
       in
       subst (λ t. Prints bytes t) (sym same) (read x′ y′ pair a2)

@@ -67,7 +67,13 @@ fn put_comparison_fault(out: &mut [u8], fault: ComparisonFault) -> usize
 }
 
 // Writes the report on two netlists whose findings are known.
-fn put_report<G: Algebra>(algebra: &G, inputs: u8, pairs: u32, findings: &[Finding], out: &mut [u8]) -> usize
+fn put_report<G: Algebra>(
+    algebra: &G,
+    inputs: u8,
+    pairs: u32,
+    findings: &[Finding],
+    out: &mut [u8],
+) -> usize
     requires room { ⌜ length (now out) ≡ 40000 ⌝ }
     requires inputs { ⌜ inputs ≤ 16 ⌝ }
     requires pairs { ⌜ length (now findings) ≤ 512 ⌝ }
@@ -113,7 +119,14 @@ fn put_comparison<G: Algebra>(
     ensures text { λ r. ⌜ take r (now (out .exit)) ≡ compared ops inputs (now (first .entry)) (now (second .entry)) ⌝ }
 {
     if inputs > 16 {
-        return match check_comparison(algebra, inputs, first, second, values.len(), findings.len()) {
+        return match check_comparison(
+            algebra,
+            inputs,
+            first,
+            second,
+            values.len(),
+            findings.len(),
+        ) {
             Ok(_) => put_too_many(out),
             Err(fault) => put_comparison_fault(out, fault),
         };
@@ -165,7 +178,14 @@ pub fn answer(heap: Global, input: &[u8]) -> Result<Vec<u8>, AllocError>
     let mut values = vec![in heap; 0u8; 1024]?;
     let mut findings = vec![in heap; Finding::Clean; LINES]?;
     let mut out = vec![in heap; 0u8; BYTES]?;
-    let end = put_answer(input, &mut first, &mut second, &mut values, &mut findings, &mut out);
+    let end = put_answer(
+        input,
+        &mut first,
+        &mut second,
+        &mut values,
+        &mut findings,
+        &mut out,
+    );
     out.truncate(end);
     Ok(out)
 }
