@@ -2,6 +2,7 @@
 use mathlib.Core.Path.{_≡_, refl, sym, ap, _∙_}
 use mathlib.Core.List.{List, [], _∷_}
 use Prim.Native.Nat.{ℕ, _+_, _<_, _≤_}
+use native.Mathlib.Omega.{arith}
 use lib.ListN.{length, getD, drop}
 use Rattle.std.specs.declared.option.Option.{Option}
 use Rattle.std.specs.declared.option.Option.the-variants.{Some, None}
@@ -33,3 +34,13 @@ module _ (o : Ops) (n : ℕ) (ls : List Line) (i : ℕ) where
 
   pub line-accepted : (d : Line) → i < length ls → first-fault o n i (drop i ls) ≡ None → line-fault o n i (getD ls i d) ≡ None
   line-accepted d h e = none-at _ (first-fault o n (i + 1) (drop (i + 1) ls)) (sym (here d h) ∙ e)
+
+at-line-below : (k m : ℕ) (x : Option LineFault) (rest : Option NetlistFault) (f : NetlistFault) → k < m → (rest ≡ Some f → f .line < m) → at-line k x rest ≡ Some f → f .line < m
+at-line-below k m None rest f h below e = below e
+at-line-below k m (Some g) rest f h below e = let same : k ≡ f .line = cc in omega arith
+
+-- the refused line is one of the lines
+pub fault-within : (o : Ops) (n k : ℕ) (ls : List Line) (f : NetlistFault) → first-fault o n k ls ≡ Some f → f .line < k + length ls
+unfolding first-fault
+fault-within o n k [] f e = absurd (let z : _≡_ {A = ℕ} 0 1 = cc in omega arith)
+fault-within o n k (l ∷ ls) f e = at-line-below k (k + length (l ∷ ls)) (line-fault o n k l) (first-fault o n (k + 1) ls) f (omega arith) (λ h. let p = fault-within o n (k + 1) ls f h in omega arith) e

@@ -71,14 +71,14 @@ module _ (g s t : Signal) (m : ℕ) where
   step-old v vs (Differs d) other e = ap (λ b. cond b new (Differs d)) (cond-false (eqb v (d .grade)) false _ (ne-eqb v (d .grade) (other d refl)) ∙ cond-false (eqb v (g m)) true _ (ne-eqb v (g m) (λ q. e (sym q))))
 
   step-at : (v : ℕ) (vs : List ℕ) (x : Option ℕ) → first-below m g v ≡ x → gravest (suc m) g s t vs ≡ regraded vs (g m) new (gravest m g s t vs)
-    → differs-at s t v (or-at x (eqb (g m) v) m) (gravest (suc m) g s t vs) ≡ regraded (v ∷ vs) (g m) new (differs-at s t v x (gravest m g s t vs))
+      → differs-at s t v (or-at x (eqb (g m) v) m) (gravest (suc m) g s t vs) ≡ regraded (v ∷ vs) (g m) new (differs-at s t v x (gravest m g s t vs))
   step-at v vs (Some p) e ih = sym (step-some v p vs)
   step-at v vs None e ih =
       let other : (d : Difference) → gravest m g s t vs ≡ Differs d → v ≡ d .grade → ⊥ =
-          λ d h same.
-          (let o = occurs vs d h in
-          let no = first-none (λ p. eqb (g p) v) m 0 e (d .pattern) (omega arith) (let k = o .0 in omega arith) in
-          eqb-false (g (d .pattern)) v no (o .1 ∙ sym same))
+      λ d h same.
+      (let o = occurs vs d h in
+      let no = first-none (λ p. eqb (g p) v) m 0 e (d .pattern) (omega arith) (let k = o .0 in omega arith) in
+      eqb-false (g (d .pattern)) v no (o .1 ∙ sym same))
       in
       ⊎-elim
       (λ here.

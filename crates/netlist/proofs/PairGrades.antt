@@ -30,13 +30,13 @@ upto-none o m left right old = record { done = λ k h. absurd (omega arith); res
 module _ (o : Ops) (m : ℕ) (left right : List ℕ) (old new : List Finding) (i : ℕ) (u : Upto o m left right old new i) where
   pub upto-more : (x y : Finding) → i < length new → x ≡ getD new i Clean → Regraded o m (getD left i 0) (getD right i 0) x y → Upto o m left right old (set new i y) (i + 1)
   upto-more x y h e r = record {
-      done = λ k l.
-          ⊎-elim
-          (λ same. rw same (rw (getD-set-same new i y Clean h) (λ s t a b q. r s t a b (e ∙ u .rest i (omega arith) ∙ q))))
-          (λ other. rw (getD-set-other new i k y Clean other) (u .done k (omega arith)))
-          (cases-eq k i);
-      rest = λ k l. getD-set-other new i k y Clean (omega arith) ∙ u .rest k (omega arith);
-    }
+    done = λ k l.
+        ⊎-elim
+        (λ same. rw same (rw (getD-set-same new i y Clean h) (λ s t a b q. r s t a b (e ∙ u .rest i (omega arith) ∙ q))))
+        (λ other. rw (getD-set-other new i k y Clean other) (u .done k (omega arith)))
+        (cases-eq k i);
+    rest = λ k l. getD-set-other new i k y Clean (omega arith) ∙ u .rest k (omega arith);
+  }
 
   pub upto-all : length new ≡ length old → length old ≤ i → (ss ts : List Signal) → length ss ≡ length old → length ts ≡ length ss → take (length ss) left ≡ values-at m ss → take (length ss) right ≡ values-at m ts → old ≡ zipped (finding-below o m) ss ts → new ≡ zipped (finding-below o (m + 1)) ss ts
   upto-all long far ss ts es et el er known =
@@ -45,9 +45,9 @@ module _ (o : Ops) (m : ℕ) (left right : List ℕ) (old new : List Finding) (i
       (λ k h.
       let ks : k < length ss = omega arith in
       u .done k (omega arith) (signal-at ss k) (signal-at ts k)
-        (value-read m k ss left ks el)
-        (value-read m k ts right (omega arith) (ap (λ n. take n right) et ∙ er))
-        (ap (λ l. getD l k Clean) known ∙ zipped-at (finding-below o m) ss ts k (constant 0) (constant 0) Clean (omega arith) ks)
+      (value-read m k ss left ks el)
+      (value-read m k ts right (omega arith) (ap (λ n. take n right) et ∙ er))
+      (ap (λ l. getD l k Clean) known ∙ zipped-at (finding-below o m) ss ts k (constant 0) (constant 0) Clean (omega arith) ks)
       ∙ sym (zipped-at (finding-below o (m + 1)) ss ts k (constant 0) (constant 0) Clean (omega arith) ks))
 
 -- before the first pattern every pair is clean

@@ -14,7 +14,6 @@ use Rattle.netlist.specs.Lines.{line-signals, outs}
 use Rattle.netlist.specs.Findings.{zipped, findings}
 
 infix 20 _is_
-
 -- what is computed, and what it is to be
 pub data Case : Type 0 where
   _is_ : ℕ → ℕ → Case
@@ -39,7 +38,6 @@ abbrev NOT : ℕ → ℕ
 NOT v = five .turn v
 
 infix 30 _AND_ _IFAND_ _IFOR_ _WIRE_ _GRADE_
-
 abbrev _AND_ : ℕ → ℕ → ℕ
 a AND b = five .op 3 a b
 

@@ -12,9 +12,7 @@ ghost use Rattle.netlist.specs.Faults.{first-fault};
 ghost use Rattle.netlist.specs.Evaluations.{values-at};
 ghost use Rattle.netlist.specs.Findings.{finding-below, findings, findings-below, zipped};
 ghost use Rattle.netlist.specs.Comparisons.{Accepted, Refused};
-
 ghost use Rattle.netlist.specs.Orders.{before};
-
 use crate::evaluation::check_lines;
 use crate::evaluation::fill_values;
 use crate::fault::ComparisonFault;
@@ -84,11 +82,13 @@ fn regrade<G: Algebra>(algebra: &G, old: Finding, number: u64, left: u8, right: 
         right,
     });
     match old {
-        Finding::Clean => {
-            if grade == 0 { old } else { new }
-        }
+        Finding::Clean => { if grade == 0 { old } else { new } }
         Finding::Differs(known) => {
-            if is_before(algebra.grave_order(), grade, known.grade) { new } else { old }
+            if is_before(algebra.grave_order(), grade, known.grade) {
+                new
+            } else {
+                old
+            }
         }
     }
 }
@@ -104,7 +104,13 @@ fn out_values<G: Algebra>(algebra: &G, lines: &[Line], pattern: Pattern, values:
 }
 
 // Each pair's finding over the patterns up to this one, from those over the patterns before it.
-fn regrade_pairs<G: Algebra>(algebra: &G, number: u64, left: &[u8], right: &[u8], findings: &mut [Finding])
+fn regrade_pairs<G: Algebra>(
+    algebra: &G,
+    number: u64,
+    left: &[u8],
+    right: &[u8],
+    findings: &mut [Finding],
+)
     requires left { ⌜ length (now findings) ≤ length (now left) ⌝ }
     requires right { ⌜ length (now findings) ≤ length (now right) ⌝ }
     ensures { λ _. ⌜ ((ss ts : List Signal) → length ss ≡ length (now (findings .entry)) → length ts ≡ length ss → take (length ss) (now (left .entry)) ≡ values-at number ss → take (length ss) (now (right .entry)) ≡ values-at number ts → now (findings .entry) ≡ zipped (finding-below ops number) ss ts → now (findings .exit) ≡ zipped (finding-below ops (number + 1)) ss ts) ⌝ }
@@ -114,8 +120,16 @@ fn regrade_pairs<G: Algebra>(algebra: &G, number: u64, left: &[u8], right: &[u8]
     }
 }
 
-// The tests of a comparison, in order; the number of pairs where all pass.
-fn check_pairs<G: Algebra>(algebra: &G, inputs: u8, first: &[Line], second: &[Line], room: usize, rows: usize) -> Result<usize, ComparisonFault>
+// The tests of a comparison, in order, with room for so many values and rows for so many findings; the number of pairs
+// where all pass.
+pub fn check_comparison<G: Algebra>(
+    algebra: &G,
+    inputs: u8,
+    first: &[Line],
+    second: &[Line],
+    room: usize,
+    rows: usize,
+) -> Result<usize, ComparisonFault>
     ensures { λ r. ⌜ ByOk r
         (λ pairs. (pairs ≡ out-count (now (first .entry))) × Accepted ops inputs (now (first .entry)) (now (second .entry)) room rows)
         (λ e. Refused ops inputs (now (first .entry)) (now (second .entry)) room rows e) ⌝ }
@@ -143,7 +157,14 @@ fn check_pairs<G: Algebra>(algebra: &G, inputs: u8, first: &[Line], second: &[Li
 }
 
 // Grades each pair over one pattern more. `values` is work memory.
-fn try_pattern<G: Algebra>(algebra: &G, pattern: Pattern, first: &[Line], second: &[Line], values: &mut [u8], findings: &mut [Finding])
+fn try_pattern<G: Algebra>(
+    algebra: &G,
+    pattern: Pattern,
+    first: &[Line],
+    second: &[Line],
+    values: &mut [u8],
+    findings: &mut [Finding],
+)
     requires accepted { ⌜ Accepted ops (pattern .width) (now first) (now second) (length (now values)) (length (now findings)) ⌝ }
     requires pairs { ⌜ length (now findings) ≡ out-count (now first) ⌝ }
     ensures rest { λ _. ⌜ drop (length (now (first .entry)) + length (now (second .entry))) (now (values .exit)) ≡ drop (length (now (first .entry)) + length (now (second .entry))) (now (values .entry)) ⌝ }
@@ -153,11 +174,24 @@ fn try_pattern<G: Algebra>(algebra: &G, pattern: Pattern, first: &[Line], second
     let end = middle + second.len();
     out_values(algebra, first, pattern, &mut values[0..middle]);
     out_values(algebra, second, pattern, &mut values[middle..end]);
-    regrade_pairs(algebra, pattern.number(), &values[0..middle], &values[middle..end], findings);
+    regrade_pairs(
+        algebra,
+        pattern.number(),
+        &values[0..middle],
+        &values[middle..end],
+        findings,
+    );
 }
 
 // Compares by every pattern, from clean findings on.
-fn try_patterns<G: Algebra>(algebra: &G, inputs: u8, first: &[Line], second: &[Line], values: &mut [u8], found: &mut [Finding])
+fn try_patterns<G: Algebra>(
+    algebra: &G,
+    inputs: u8,
+    first: &[Line],
+    second: &[Line],
+    values: &mut [u8],
+    found: &mut [Finding],
+)
     requires accepted { ⌜ Accepted ops inputs (now first) (now second) (length (now values)) (length (now found)) ⌝ }
     requires pairs { ⌜ length (now found) ≡ out-count (now first) ⌝ }
     ensures rest { λ _. ⌜ drop (length (now (first .entry)) + length (now (second .entry))) (now (values .exit)) ≡ drop (length (now (first .entry)) + length (now (second .entry))) (now (values .entry)) ⌝ }
@@ -176,13 +210,20 @@ fn try_patterns<G: Algebra>(algebra: &G, inputs: u8, first: &[Line], second: &[L
 
 // Compares the OUT lines of two netlists pairwise by trying every pattern, and answers how many pairs there are. `values`
 // is work memory, an entry for each line of both netlists.
-pub fn compare_by_patterns<G: Algebra>(algebra: &G, inputs: u8, first: &[Line], second: &[Line], values: &mut [u8], found: &mut [Finding]) -> Result<usize, ComparisonFault>
+pub fn compare_by_patterns<G: Algebra>(
+    algebra: &G,
+    inputs: u8,
+    first: &[Line],
+    second: &[Line],
+    values: &mut [u8],
+    found: &mut [Finding],
+) -> Result<usize, ComparisonFault>
     ensures answer { λ r. ⌜ ByOk r
         (λ pairs. (pairs ≡ out-count (now (first .entry))) × Accepted ops inputs (now (first .entry)) (now (second .entry)) (length (now (values .entry))) (length (now (found .entry))) × (now (found .exit) ≡ findings ops inputs (now (first .entry)) (now (second .entry)) ++ drop pairs (now (found .entry))))
         (λ e. Refused ops inputs (now (first .entry)) (now (second .entry)) (length (now (values .entry))) (length (now (found .entry))) e × (now (found .exit) ≡ now (found .entry)) × (now (values .exit) ≡ now (values .entry))) ⌝ }
     ensures rest { λ _. ⌜ drop (length (now (first .entry)) + length (now (second .entry))) (now (values .exit)) ≡ drop (length (now (first .entry)) + length (now (second .entry))) (now (values .entry)) ⌝ }
 {
-    let pairs = check_pairs(algebra, inputs, first, second, values.len(), found.len())?;
+    let pairs = check_comparison(algebra, inputs, first, second, values.len(), found.len())?;
     try_patterns(algebra, inputs, first, second, values, &mut found[0..pairs]);
     Ok(pairs)
 }

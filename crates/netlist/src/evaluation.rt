@@ -28,17 +28,33 @@ fn fault_of<G: Algebra>(algebra: &G, inputs: u8, number: usize, line: Line) -> O
     let earlier = (line.first as usize) < number;
     match kind {
         Kind::Input => {
-            if line.first < inputs as u32 { None } else { Some(LineFault::NoSuchInput) }
+            if line.first < inputs as u32 {
+                None
+            } else {
+                Some(LineFault::NoSuchInput)
+            }
         }
         Kind::Const => {
-            if line.first < algebra.value_count() as u32 { None } else { Some(LineFault::NoSuchCode) }
+            if line.first < algebra.value_count() as u32 {
+                None
+            } else {
+                Some(LineFault::NoSuchCode)
+            }
         }
         Kind::Wire if !algebra.has_wire() => Some(LineFault::NoSuchKind),
         Kind::Not | Kind::Out => {
-            if earlier { None } else { Some(LineFault::NotEarlier) }
+            if earlier {
+                None
+            } else {
+                Some(LineFault::NotEarlier)
+            }
         }
         Kind::And | Kind::Or | Kind::IfAnd | Kind::IfOr | Kind::Wire => {
-            if earlier && (line.second as usize) < number { None } else { Some(LineFault::NotEarlier) }
+            if earlier && (line.second as usize) < number {
+                None
+            } else {
+                Some(LineFault::NotEarlier)
+            }
         }
     }
 }
@@ -51,14 +67,23 @@ pub fn check_lines<G: Algebra>(algebra: &G, inputs: u8, lines: &[Line]) -> Resul
 {
     for (number, line) in lines.iter().enumerate() {
         if let Some(fault) = fault_of(algebra, inputs, number, *line) {
-            return Err(NetlistFault { line: number, fault });
+            return Err(NetlistFault {
+                line: number,
+                fault,
+            });
         }
     }
     Ok(())
 }
 
 // The value of a line on a pattern, from those of the earlier lines.
-fn line_value<G: Algebra>(algebra: &G, pattern: Pattern, number: usize, line: Line, values: &[u8]) -> u8
+fn line_value<G: Algebra>(
+    algebra: &G,
+    pattern: Pattern,
+    number: usize,
+    line: Line,
+    values: &[u8],
+) -> u8
     requires accepted { ⌜ line-fault ops (pattern .width) number line ≡ None ⌝ }
     requires within { ⌜ number ≤ length (now values) ⌝ }
     ensures { λ r. ⌜ ((ss : List Signal) → length ss ≡ number → Valued (pattern .number) ss (now (values .entry)) → r ≡ line-signal ops (pattern .width) ss line (pattern .number)) ⌝ }
@@ -68,12 +93,21 @@ fn line_value<G: Algebra>(algebra: &G, pattern: Pattern, number: usize, line: Li
         Some(Kind::Const) => line.first as u8,
         Some(Kind::Not) => algebra.turn(values[line.first as usize]),
         Some(Kind::Out) => values[line.first as usize],
-        _ => algebra.operate_by_number(line.kind, values[line.first as usize], values[line.second as usize]),
+        _ => algebra.operate_by_number(
+            line.kind,
+            values[line.first as usize],
+            values[line.second as usize],
+        ),
     }
 }
 
 // Writes the value of each line on the pattern.
-pub(crate) fn fill_values<G: Algebra>(algebra: &G, lines: &[Line], pattern: Pattern, values: &mut [u8])
+pub(crate) fn fill_values<G: Algebra>(
+    algebra: &G,
+    lines: &[Line],
+    pattern: Pattern,
+    values: &mut [u8],
+)
     requires accepted { ⌜ first-fault ops (pattern .width) 0 (now lines) ≡ None ⌝ }
     requires room { ⌜ length (now lines) ≤ length (now values) ⌝ }
     ensures { λ _. ⌜ now (values .exit) ≡ values-at (pattern .number) (line-signals ops (pattern .width) (now (lines .entry))) ++ drop (length (now (lines .entry))) (now (values .entry)) ⌝ }
@@ -84,7 +118,12 @@ pub(crate) fn fill_values<G: Algebra>(algebra: &G, lines: &[Line], pattern: Patt
 }
 
 // The value of each line on a pattern, into a list.
-pub fn evaluate<G: Algebra>(algebra: &G, lines: &[Line], pattern: Pattern, values: &mut [u8]) -> Result<(), EvaluationFault>
+pub fn evaluate<G: Algebra>(
+    algebra: &G,
+    lines: &[Line],
+    pattern: Pattern,
+    values: &mut [u8],
+) -> Result<(), EvaluationFault>
     ensures { λ r. ⌜ ByOk r
         (λ _. (first-fault ops (pattern .width) 0 (now (lines .entry)) ≡ None) × (length (now (lines .entry)) ≤ length (now (values .entry))) × (now (values .exit) ≡ values-at (pattern .number) (line-signals ops (pattern .width) (now (lines .entry))) ++ drop (length (now (lines .entry))) (now (values .entry))))
         (λ e. Refused ops (pattern .width) (now (lines .entry)) (length (now (values .entry))) e × (now (values .exit) ≡ now (values .entry))) ⌝ }

@@ -1,6 +1,6 @@
 ghost use mathlib.Core.Path.{_≡_};
 ghost use Rattle.netlist.specs.declared.fault.EvaluationFault.the-variants.{Line};
-ghost use Rattle.netlist.specs.FaultNumbers.{line-fault-number, evaluation-fault-number, comparison-fault-number};
+ghost use Rattle.netlist.specs.FaultNumbers.{line-fault-number, evaluation-fault-number, comparison-fault-number, comparison-fault-netlist, comparison-fault-line};
 
 // Why a line is refused.
 #[derive(Clone, Copy, PartialEq, Eq, Debug)]
@@ -90,6 +90,28 @@ impl ComparisonFault {
             ComparisonFault::OutCounts => 42,
             ComparisonFault::First(f) => f.fault.number(),
             ComparisonFault::Second(f) => f.fault.number(),
+        }
+    }
+
+    // The netlist that is refused, 1 or 2, or 0 for neither.
+    pub fn netlist(self) -> u8
+        ensures { λ r. ⌜ r ≡ comparison-fault-netlist self ⌝ }
+    {
+        match self {
+            ComparisonFault::First(_) => 1,
+            ComparisonFault::Second(_) => 2,
+            _ => 0,
+        }
+    }
+
+    // The line that is refused.
+    pub fn line(self) -> Option<usize>
+        ensures { λ r. ⌜ r ≡ comparison-fault-line self ⌝ }
+    {
+        match self {
+            ComparisonFault::First(f) => Some(f.line),
+            ComparisonFault::Second(f) => Some(f.line),
+            _ => None,
         }
     }
 }

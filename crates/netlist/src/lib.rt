@@ -9,6 +9,7 @@ mod line;
 mod pattern;
 
 pub use cases::worked_cases;
+pub use comparison::check_comparison;
 pub use comparison::compare_by_patterns;
 pub use evaluation::check_lines;
 pub use evaluation::evaluate;

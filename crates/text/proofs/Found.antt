@@ -29,7 +29,7 @@ summary-size pairs Tried number = refl
 summary-size pairs Report number = refl
 
 pub summary-is : (a b c : List ℕ) (pairs : ℕ) (word : Summary) (number : ℕ) → a ≡ number-field pairs → b ≡ summary-word word → c ≡ operand-field (Some number)
-  → a ++ ((32 ∷ []) ++ (b ++ (c ++ (10 ∷ [])))) ≡ summary-row pairs word number
+    → a ++ ((32 ∷ []) ++ (b ++ (c ++ (10 ∷ [])))) ≡ summary-row pairs word number
 unfolding summary-row
 summary-is a b c pairs word number p q r =
     ap (λ t. t ++ (32 ∷ (b ++ (c ++ (10 ∷ []))))) p ∙ ap (λ t. number-field pairs ++ (32 ∷ (t ++ (c ++ (10 ∷ []))))) q
@@ -40,7 +40,7 @@ unfolding fault-row
 fault-size number netlist line = row-length number (codes "FAULT ") (Some netlist) line refl
 
 pub fault-is : (a b c : List ℕ) (number netlist : ℕ) (line : Option ℕ) → a ≡ number-field number → b ≡ operand-field (Some netlist) → c ≡ operand-field line
-  → a ++ ((32 ∷ 70 ∷ 65 ∷ 85 ∷ 76 ∷ 84 ∷ 32 ∷ []) ++ (b ++ (c ++ (10 ∷ [])))) ≡ fault-row number netlist line
+    → a ++ ((32 ∷ 70 ∷ 65 ∷ 85 ∷ 76 ∷ 84 ∷ 32 ∷ []) ++ (b ++ (c ++ (10 ∷ [])))) ≡ fault-row number netlist line
 unfolding fault-row
 fault-is a b c number netlist line p q r =
     ap (λ t. t ++ (32 ∷ 70 ∷ 65 ∷ 85 ∷ 76 ∷ 84 ∷ 32 ∷ (b ++ (c ++ (10 ∷ []))))) p
@@ -78,7 +78,7 @@ findings-sized letter width n (f ∷ fs) =
 
 -- one row more
 findings-push : (letter : ℕ → ℕ) (width m : ℕ) (fs : List Finding) (f : Finding)
-  → findings-text letter width m (fs ++ (f ∷ [])) ≡ findings-text letter width m fs ++ finding-row letter width (m + length fs) f
+    → findings-text letter width m (fs ++ (f ∷ [])) ≡ findings-text letter width m fs ++ finding-row letter width (m + length fs) f
 unfolding findings-text
 findings-push letter width m [] f = append-nil (finding-row letter width m f) ∙ ap (λ k. finding-row letter width k f) (omega arith)
 findings-push letter width m (g ∷ fs) f =
@@ -87,7 +87,7 @@ findings-push letter width m (g ∷ fs) f =
     ∙ sym (append-assoc (finding-row letter width m g) (findings-text letter width (suc m) fs) (finding-row letter width (m + suc (length fs)) f))
 
 pub findings-more : (letter : ℕ → ℕ) (width : ℕ) (fs : List Finding) (i : ℕ) (d : Finding) → i < length fs
-  → findings-text letter width 0 (take i fs) ++ finding-row letter width i (getD fs i d) ≡ findings-text letter width 0 (take (i + 1) fs)
+    → findings-text letter width 0 (take i fs) ++ finding-row letter width i (getD fs i d) ≡ findings-text letter width 0 (take (i + 1) fs)
 findings-more letter width fs i d h =
     let k : i ≡ 0 + length (take i fs) = (let t = length-take-le i fs (omega arith) in omega arith) in
     ap (λ j. findings-text letter width 0 (take i fs) ++ finding-row letter width j (getD fs i d)) k
@@ -95,7 +95,7 @@ findings-more letter width fs i d h =
 
 -- and one bit
 pub bits-more : (f : ℕ → ℕ) (n at : ℕ) (x y : List ℕ) (r : ℕ) → Written (map f (counting 0 n)) at x y (at + n) → r ≡ f n → at + n < length y
-  → Written (map f (counting 0 (n + 1))) at x (set y (at + n) r) (at + (n + 1))
+    → Written (map f (counting 0 (n + 1))) at x (set y (at + n) r) (at + (n + 1))
 bits-more f n at x y r w e h =
     let v = written-more (map f (counting 0 n)) at x y (at + n) w (r ∷ []) (set y (at + n) r) (at + n + 1) (written-set (at + n) r y h) in
     let q : map f (counting 0 n) ++ (r ∷ []) ≡ map f (counting 0 (n + 1)) = ap (λ z. map f (counting 0 n) ++ (z ∷ [])) e ∙ sym (map-counting-more f 0 n n (omega arith)) in
@@ -104,7 +104,7 @@ bits-more f n at x y r w e h =
 
 -- the rows that are left
 pub size-more : (width : ℕ) (fs : List Finding) (i : ℕ) (d : Finding) (r : ℕ) → i < length fs → r ≡ finding-size width (getD fs i d)
-  → findings-size width (drop i fs) ≡ r + findings-size width (drop (i + 1) fs)
+    → findings-size width (drop i fs) ≡ r + findings-size width (drop (i + 1) fs)
 size-more width fs i d r h e = at-drop-more (findings-size width) fs i d h ∙ ap (λ n. n + findings-size width (drop (i + 1) fs)) (sym e)
 
 pub size-all : (width : ℕ) (fs : List Finding) (i : ℕ) → length fs ≤ i → findings-size width (drop i fs) ≡ 0
@@ -120,7 +120,7 @@ unfolding finding-row
 differs-is letter width n d a p = ap (λ t. t ++ difference letter width d) p
 
 pub difference-is : (letter : ℕ → ℕ) (width : ℕ) (d : Difference) (x y z : ℕ) → x ≡ letter (d .grade) → y ≡ letter (d .left) → z ≡ letter (d .right)
-  → (32 ∷ x ∷ 32 ∷ y ∷ 32 ∷ z ∷ 32 ∷ []) ++ (bits width (d .pattern) ++ (10 ∷ [])) ≡ difference letter width d
+    → (32 ∷ x ∷ 32 ∷ y ∷ 32 ∷ z ∷ 32 ∷ []) ++ (bits width (d .pattern) ++ (10 ∷ [])) ≡ difference letter width d
 difference-is letter width d x y z q r s =
     ap (λ t. (32 ∷ t ∷ 32 ∷ y ∷ 32 ∷ z ∷ 32 ∷ []) ++ (bits width (d .pattern) ++ (10 ∷ []))) q
     ∙ ap (λ t. (32 ∷ letter (d .grade) ∷ 32 ∷ t ∷ 32 ∷ z ∷ 32 ∷ []) ++ (bits width (d .pattern) ++ (10 ∷ []))) r
@@ -128,7 +128,7 @@ difference-is letter width d x y z q r s =
 
 -- the room that is left after the letters and the bits
 pub after-bits : (s : List ℕ) (at : ℕ) (x y z : List ℕ) (e f width pattern : ℕ) → Written s at x y e → Written (bits width pattern) e y z f
-  → length s ≡ 7 → at + (8 + width) ≤ length x → f + 1 ≤ length z
+    → length s ≡ 7 → at + (8 + width) ≤ length x → f + 1 ≤ length z
 after-bits s at x y z e f width pattern p q h r =
     let a = same-length s at x y e p in
     let b = same-length (bits width pattern) e y z f q in
@@ -143,12 +143,13 @@ no-findings letter width at xs h = written-none at xs h
 
 -- the row of the finding i after those before it
 pub next-row : (letter : ℕ → ℕ) (width : ℕ) (fs : List Finding) (i at e f : ℕ) (x y z : List ℕ) → i < length fs
-  → Written (findings-text letter width 0 (take i fs)) at x y e → e + findings-size width (drop i fs) ≤ length y → Written (finding-row letter width i (getD fs i Clean)) e y z f
-  → Written (findings-text letter width 0 (take (i + 1) fs)) at x z f × (f + findings-size width (drop (i + 1) fs) ≤ length z)
+    → Written (findings-text letter width 0 (take i fs)) at x y e → e + findings-size width (drop i fs) ≤ length y → Written (finding-row letter width i (getD fs i Clean)) e y z f
+    → Written (findings-text letter width 0 (take (i + 1) fs)) at x z f × (f + findings-size width (drop (i + 1) fs) ≤ length z)
 next-row letter width fs i at e f x y z h w r v =
     let s = size-more width fs i Clean (finding-size width (getD fs i Clean)) h refl in
     let n = finding-sized letter width i (getD fs i Clean) in
     let l = same-length (finding-row letter width i (getD fs i Clean)) e y z f v in
-    let q = v .end-is in
-    (written-as _ _ at x z f (findings-more letter width fs i Clean h) (written-more (findings-text letter width 0 (take i fs)) at x y e w (finding-row letter width i (getD fs i Clean)) z f v),
-     omega arith)
+    let q = v .end-is in (
+      written-as _ _ at x z f (findings-more letter width fs i Clean h) (written-more (findings-text letter width 0 (take i fs)) at x y e w (finding-row letter width i (getD fs i Clean)) z f v),
+      omega arith,
+    )

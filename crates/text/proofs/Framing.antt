@@ -28,11 +28,11 @@ operand-length None = refl
 operand-length (Some n) = refl
 
 glue : (p w a b p′ w′ a′ b′ : List ℕ) (x y : ℕ) → p ≡ p′ → x ≡ 32 → w ≡ w′ → a ≡ a′ → b ≡ b′ → y ≡ 10
-  → p ++ (x ∷ (w ++ (a ++ (b ++ (y ∷ []))))) ≡ p′ ++ (32 ∷ (w′ ++ (a′ ++ (b′ ++ (10 ∷ [])))))
+    → p ++ (x ∷ (w ++ (a ++ (b ++ (y ∷ []))))) ≡ p′ ++ (32 ∷ (w′ ++ (a′ ++ (b′ ++ (10 ∷ [])))))
 glue p w a b p′ w′ a′ b′ x y e1 e2 e3 e4 e5 e6 = cc
 
 pub by-fields : (s : List ℕ) → Framed s → (n : ℕ) (w : List ℕ) (a b : Option ℕ)
-  → take 5 s ≡ number-field n → take 6 (drop 6 s) ≡ w → take 6 (drop 12 s) ≡ operand-field a → take 6 (drop 18 s) ≡ operand-field b → s ≡ row n w a b
+    → take 5 s ≡ number-field n → take 6 (drop 6 s) ≡ w → take 6 (drop 12 s) ≡ operand-field a → take 6 (drop 18 s) ≡ operand-field b → s ≡ row n w a b
 by-fields s f n w a b e1 e3 e4 e5 =
     let h : length s ≡ 25 = f .whole in
     let j : reads 0 5 s ++ (getD s 5 0 ∷ (reads 6 6 s ++ (reads 12 6 s ++ (reads 18 6 s ++ (getD s 24 0 ∷ []))))) ≡ s = reads-all 25 s h in

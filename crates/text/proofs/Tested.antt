@@ -1,13 +1,11 @@
 -- Which rows fail which test, and that the row of a line, and a HEAD row, hold one content at most. Assumes nothing.
 use mathlib.Core.Path.{_≡_, refl, sym, ap, subst, _∙_}
-use mathlib.Core.Bool.{Bool, true, false, cond}
+use mathlib.Core.Bool.{true}
 use mathlib.Core.List.{List}
-use Prim.Native.Nat.{ℕ, _<_, _≤_}
+use Prim.Native.Nat.{ℕ, _<_}
 use native.Mathlib.Omega.{arith}
-use lib.ListN.{length, take, drop}
-use Rattle.std.specs.declared.option.Option.{Option}
-use Rattle.std.specs.declared.option.Option.the-variants.{Some, None}
-use Rattle.std.proofs.shelf.Tests.{cases-bool}
+use lib.ListN.{take, drop}
+use Rattle.std.specs.declared.option.Option.the-variants.{Some}
 use Rattle.netlist.specs.declared.line.Line.{Line}
 use Rattle.text.specs.declared.fault.RowFault.{RowFault}
 use Rattle.text.specs.declared.fault.RowFault.the-variants.{Incomplete, Word, Field, OutOfTurn, Limits}
@@ -126,7 +124,7 @@ module _ (s : List ℕ) where
   no-second k h w none q =
       let e : q .line .kind ≡ k = same-kind (q .line .kind) k (q .readable .known) h (sym (line-word (q .number) (q .line) (q .readable)) ∙ ap word-of (sym (q .text)) ∙ w) in
       none (q .line .second) (q .readable .second)
-        (ap (λ t. take 6 (drop 18 t)) (q .text) ∙ line-second (q .number) (q .line) (q .readable) ∙ ap (λ j. operand-field (second-operand j (q .line .second))) e)
+      (ap (λ t. take 6 (drop 18 t)) (q .text) ∙ line-second (q .number) (q .line) (q .readable) ∙ ap (λ j. operand-field (second-operand j (q .line .second))) e)
 
   pub no-count : ((n : ℕ) → n < 100000 → take 5 s ≡ number-field n → ⊥) → (n i v : ℕ) → HeadRow s n i v → ⊥
   no-count none n i v q = none n (q .small) (ap (take 5) (q .text) ∙ head-number n i v)
@@ -160,7 +158,7 @@ module _ (s t : List ℕ) (e : s ≡ t) (f : Framed s) where
   head-fails-field w none = subst (λ u. FirstFailed (HeadTest u) Field) e (fails-field (HeadTest s) f w (λ q. none (q .0) (q .1) (q .2) (q .3)))
 
   pub is-head : (n i v : ℕ) → word-of s ≡ head-word → (n < 100000) × (take 5 s ≡ number-field n)
-    → (i < 1000000) × (take 6 (drop 12 s) ≡ operand-field (Some i)) → (v < 1000000) × (take 6 (drop 18 s) ≡ operand-field (Some v)) → HeadRow t n i v
+      → (i < 1000000) × (take 6 (drop 12 s) ≡ operand-field (Some i)) → (v < 1000000) × (take 6 (drop 18 s) ≡ operand-field (Some v)) → HeadRow t n i v
   unfolding head-row
   is-head n i v w a b c = record { small = a .0; few = b .0; less = c .0; text = sym e ∙ by-fields s f n head-word (Some i) (Some v) (a .1) w (b .1) (c .1) }
 
@@ -181,7 +179,7 @@ module _ (due : ℕ) (s t : List ℕ) (e : s ≡ t) (f : Framed s) where
   line-fails-field k h w none = subst (λ u. FirstFailed (LineTest due u) Field) e (fails-field (LineTest due s) f (k, h, w) none)
 
   pub is-line : (n k a b : ℕ) → word-of s ≡ kind-word k → take 5 s ≡ number-field n
-    → take 6 (drop 12 s) ≡ operand-field (Some a) → take 6 (drop 18 s) ≡ operand-field (second-operand k b) → t ≡ line-row n (record { kind = k; first = a; second = b })
+      → take 6 (drop 12 s) ≡ operand-field (Some a) → take 6 (drop 18 s) ≡ operand-field (second-operand k b) → t ≡ line-row n (record { kind = k; first = a; second = b })
   unfolding line-row
   is-line n k a b w x y z = sym e ∙ by-fields s f n (kind-word k) (Some a) (second-operand k b) x w y z
 
@@ -193,8 +191,9 @@ module _ (due : ℕ) (s t : List ℕ) (e : s ≡ t) (f : Framed s) where
 
 -- the line that was due, its kind by number
 pub line-done : (due n k k′ a b : ℕ) (t : List ℕ) → k′ ≡ k → n ≡ due → Readable (record { kind = k; first = a; second = b })
-  → t ≡ line-row n (record { kind = k; first = a; second = b })
-  → Readable (record { kind = k′; first = a; second = b }) × (t ≡ line-row due (record { kind = k′; first = a; second = b }))
-line-done due n k k′ a b t e f r q =
-    (subst (λ x. Readable (record { kind = x; first = a; second = b })) (sym e) r,
-     q ∙ ap (λ x. line-row x (record { kind = k; first = a; second = b })) f ∙ ap (λ x. line-row due (record { kind = x; first = a; second = b })) (sym e))
+    → t ≡ line-row n (record { kind = k; first = a; second = b })
+    → Readable (record { kind = k′; first = a; second = b }) × (t ≡ line-row due (record { kind = k′; first = a; second = b }))
+line-done due n k k′ a b t e f r q = (
+  subst (λ x. Readable (record { kind = x; first = a; second = b })) (sym e) r,
+  q ∙ ap (λ x. line-row x (record { kind = k; first = a; second = b })) f ∙ ap (λ x. line-row due (record { kind = x; first = a; second = b })) (sym e),
+)

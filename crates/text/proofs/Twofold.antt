@@ -2,7 +2,7 @@
 use mathlib.Core.Path.{_≡_, refl, sym, ap, subst, _∙_}
 use mathlib.Core.Bool.{Bool, true, false, cond, _&&_}
 use mathlib.Core.List.{List, [], _∷_, _++_}
-use Prim.Native.Nat.{ℕ, suc, _+_, _*_, _-_, _<_, _≤_}
+use Prim.Native.Nat.{ℕ, suc, _+_, _*_, _≤_}
 use native.Mathlib.Omega.{arith}
 use lib.Dec.{eqb, ltb}
 use lib.ListN.{length, take, drop, length-take, length-drop}
@@ -19,9 +19,9 @@ use Rattle.text.specs.declared.header.Pair.{Pair}
 use Rattle.text.specs.declared.fault.ReadFault.{ReadFault}
 use Rattle.text.specs.declared.fault.PairFault.{PairFault}
 use Rattle.text.specs.declared.fault.PairFault.the-variants.{First, Second, Trailing, Heads}
-use Rattle.text.specs.Netlists.{Readable, line-row, head-row, lines-text, netlist-text}
-use Rattle.text.specs.Readings.{Stands, Begins, Accepted, Reading}
-use Rattle.text.specs.Pairs.{size, Alike, BothAccepted, PairAccepted, FirstRefused, SecondRefused, Followed, Unlike, PairReading, Sound, PairComplete}
+use Rattle.text.specs.Netlists.{Readable, Writable, line-row, head-row, lines-text, netlist-text}
+use Rattle.text.specs.Readings.{Stands, Accepted, Reading}
+use Rattle.text.specs.Pairs.{size, Alike, BothAccepted, PairAccepted, PairReading, ReadsPair}
 use Rattle.text.proofs.Tested.{line-framed, head-framed}
 use Rattle.text.proofs.Begun.{head-fits}
 use Rattle.text.proofs.Unique.{begun, functional}
@@ -55,12 +55,12 @@ accepted-fits bytes from x y g p =
 
 -- the bytes are the two texts
 pub pair-text : (bytes : List ℕ) (x x′ y y′ : List Line) (g h : Header) (p : Accepted bytes 0 x x′ g) (q : Accepted bytes (size g) y y′ h) → size g + size h ≡ length bytes
-  → bytes ≡ netlist-text (g .inputs) (g .values) (p .lines) ++ netlist-text (h .inputs) (h .values) (q .lines)
+    → bytes ≡ netlist-text (g .inputs) (g .values) (p .lines) ++ netlist-text (h .inputs) (h .values) (q .lines)
 pair-text bytes x x′ y y′ g h p q e =
     let a : take (size g) bytes ≡ netlist-text (g .inputs) (g .values) (p .lines) = ap (λ n. take (25 * (n + 1)) bytes) (sym (p .counted)) ∙ p .stands .text in
     let l : length (drop (size g) bytes) ≤ size h = rw (length-drop (size g) bytes) (omega arith) in
     let b : drop (size g) bytes ≡ netlist-text (h .inputs) (h .values) (q .lines) =
-          sym (take-all (size h) (drop (size g) bytes) l) ∙ ap (λ n. take (25 * (n + 1)) (drop (size g) bytes)) (sym (q .counted)) ∙ q .stands .text in
+    sym (take-all (size h) (drop (size g) bytes) l) ∙ ap (λ n. take (25 * (n + 1)) (drop (size g) bytes)) (sym (q .counted)) ∙ q .stands .text in
     sym (take-append-drop (size g) bytes) ∙ ap (λ t. t ++ drop (size g) bytes) a ∙ ap (λ t. netlist-text (g .inputs) (g .values) (p .lines) ++ t) b
 
 -- the same reading step by step, each step a function of what was read
@@ -93,10 +93,16 @@ unfolding answer
 steps bytes x x′ y y′ (Ok p) h =
     let g = p .first in
     let k = p .second in
-    let e = h .ended in
-    (Ok g, h .both .first, (Ok k, h .both .second,
-      sym (cond-true (alikeb g k) (Ok (record { first = g; second = k })) (Err Heads) (is-alike g k (h .alike)))
-      ∙ sym (cond-false (ltb (size g + size k) (length bytes)) (Err Trailing) _ (le-ltb (size g + size k) (length bytes) (omega arith)))))
+    let e = h .ended in (
+      Ok g,
+      h .both .first,
+      (
+        Ok k,
+        h .both .second,
+        sym (cond-true (alikeb g k) (Ok (record { first = g; second = k })) (Err Heads) (is-alike g k (h .alike)))
+            ∙ sym (cond-false (ltb (size g + size k) (length bytes)) (Err Trailing) _ (le-ltb (size g + size k) (length bytes) (omega arith))),
+      ),
+    )
 steps bytes x x′ y y′ (Err (First f)) h = (Err f, h .refused, (refl, h .kept))
 steps bytes x x′ y y′ (Err (Second f)) h = (Ok (h .header), h .first, (Err f, h .refused, refl))
 steps bytes x x′ y y′ (Err Trailing) h =
@@ -104,10 +110,16 @@ steps bytes x x′ y y′ (Err Trailing) h =
 steps bytes x x′ y y′ (Err Heads) h =
     let g = h .one in
     let k = h .two in
-    let e = h .ended in
-    (Ok g, h .both .first, (Ok k, h .both .second,
-      sym (cond-false (alikeb g k) (Ok (record { first = g; second = k })) (Err Heads) (not-alike g k (h .differ)))
-      ∙ sym (cond-false (ltb (size g + size k) (length bytes)) (Err Trailing) _ (le-ltb (size g + size k) (length bytes) (omega arith)))))
+    let e = h .ended in (
+      Ok g,
+      h .both .first,
+      (
+        Ok k,
+        h .both .second,
+        sym (cond-false (alikeb g k) (Ok (record { first = g; second = k })) (Err Heads) (not-alike g k (h .differ)))
+            ∙ sym (cond-false (ltb (size g + size k) (length bytes)) (Err Trailing) _ (le-ltb (size g + size k) (length bytes) (omega arith))),
+      ),
+    )
 
 later-once : (bytes : List ℕ) (y y′ y″ : List Line) (r q : Result Pair PairFault) (a : Result Header ReadFault) → Later bytes y y′ r a → Later bytes y y″ q a → (r ≡ q) × (y′ ≡ y″)
 later-once bytes y y′ y″ r q (Ok g) s t =
@@ -117,7 +129,7 @@ later-once bytes y y′ y″ r q (Err f) s t = (s .0 ∙ sym (t .0), s .1 ∙ sy
 
 -- at most one answer, and one list each after it
 pub pair-functional : (bytes : List ℕ) (x x′ x″ y y′ y″ : List Line) (r q : Result Pair PairFault) → PairReading bytes x x′ y y′ r → PairReading bytes x x″ y y″ q
-  → (r ≡ q) × (x′ ≡ x″) × (y′ ≡ y″)
+    → (r ≡ q) × (x′ ≡ x″) × (y′ ≡ y″)
 pair-functional bytes x x′ x″ y y′ y″ r q p p′ =
     let s = steps bytes x x′ y y′ r p in
     let t = steps bytes x x″ y y″ q p′ in
@@ -125,28 +137,51 @@ pair-functional bytes x x′ x″ y y′ y″ r q p p′ =
     let l = later-once bytes y y′ y″ r q (t .0) (subst (Later bytes y y′ r) (f .0) (s .2)) (t .2) in
     (l .0, f .1, l .1)
 
--- so the two netlists whose texts the bytes are, are read
-pub pair-complete : (bytes : List ℕ) (x x′ y y′ : List Line) (r : Result Pair PairFault) → PairReading bytes x x′ y y′ r → PairComplete bytes x x′ y y′ r
-pair-complete bytes x x′ y y′ r p i v ls ms s t a b e =
+-- the two netlists whose texts the bytes are
+texts-read : (bytes : List ℕ) (x y : List Line) (i v : ℕ) (ls ms : List Line) → Writable i v ls → Writable i v ms → length ls ≤ length x → length ms ≤ length y
+    → bytes ≡ netlist-text i v ls ++ netlist-text i v ms
+    → PairAccepted bytes x (ls ++ drop (length ls) x) y (ms ++ drop (length ms) y)
+    (record { first = record { lines = length ls; inputs = i; values = v }; second = record { lines = length ms; inputs = i; values = v } })
+texts-read bytes x y i v ls ms s t a b e =
     let n = netlist-length i v ls (s .readable) in
     let m = netlist-length i v ms (t .readable) in
     let k = length-append (netlist-text i v ls) (netlist-text i v ms) in
     let z = ap length e in
-    let one : Stands bytes 0 i v ls =
-          record { text = ap (take (25 * (length ls + 1))) e ∙ take-at (netlist-text i v ls) _ (25 * (length ls + 1)) n; short = s .short; readable = s .readable; allowed = s .allowed } in
+    let one : Stands bytes 0 i v ls = record { text = ap (take (25 * (length ls + 1))) e ∙ take-at (netlist-text i v ls) _ (25 * (length ls + 1)) n; writable = s } in
     let two : Stands bytes (25 * (length ls + 1)) i v ms =
-          record {
-            text = ap (take (25 * (length ms + 1))) (ap (drop (25 * (length ls + 1))) e ∙ drop-at (netlist-text i v ls) _ (25 * (length ls + 1)) n) ∙ take-all (25 * (length ms + 1)) (netlist-text i v ms) (omega arith);
-            short = t .short; readable = t .readable; allowed = t .allowed } in
-    pair-functional bytes x x′ (ls ++ drop (length ls) x) y y′ (ms ++ drop (length ms) y) r
-    (Ok (record { first = record { lines = length ls; inputs = i; values = v }; second = record { lines = length ms; inputs = i; values = v } })) p
-    (record {
+    record {
+      text = ap (take (25 * (length ms + 1))) (ap (drop (25 * (length ls + 1))) e ∙ drop-at (netlist-text i v ls) _ (25 * (length ls + 1)) n) ∙ take-all (25 * (length ms + 1)) (netlist-text i v ms) (omega arith);
+      writable = t;
+    } in
+    record {
       both = record {
         first = record { lines = ls; counted = refl; stands = one; filled = record { fits = a; after-is = refl } };
-        second = record { lines = ms; counted = refl; stands = two; filled = record { fits = b; after-is = refl } } };
-      alike = (refl, refl); ended = omega arith; text = e })
+        second = record { lines = ms; counted = refl; stands = two; filled = record { fits = b; after-is = refl } };
+      };
+      alike = (refl, refl);
+      ended = omega arith;
+      text = e;
+    }
+
+-- what a reading tells in full
+pub reads-pair : (bytes : List ℕ) (x x′ y y′ : List Line) (r : Result Pair PairFault) → PairReading bytes x x′ y y′ r → ReadsPair bytes x x′ y y′ r
+reads-pair bytes x x′ y y′ r p =
+    record {
+      reading = p;
+      only = λ x″ y″ q h. pair-functional bytes x x″ x′ y y″ y′ q r h p;
+      complete = λ i v ls ms s t a b e.
+          pair-functional bytes x x′ (ls ++ drop (length ls) x) y y′ (ms ++ drop (length ms) y) r
+          (Ok (record { first = record { lines = length ls; inputs = i; values = v }; second = record { lines = length ms; inputs = i; values = v } })) p
+          (texts-read bytes x y i v ls ms s t a b e);
+    }
 
 -- the answer of a fault
 pub pair-refused : (bytes : List ℕ) (x x′ y y′ : List Line) (r : Result Pair PairFault) (e d : PairFault) → r ≡ Err e → e ≡ d → PairReading bytes x x′ y y′ (Err d)
-  → PairReading bytes x x′ y y′ r
-pair-refused bytes x x′ y y′ r e d p q h = subst (PairReading bytes x x′ y y′) (sym (p ∙ ap Err q)) h
+    → ReadsPair bytes x x′ y y′ r
+pair-refused bytes x x′ y y′ r e d p q h = reads-pair bytes x x′ y y′ r (subst (PairReading bytes x x′ y y′) (sym (p ∙ ap Err q)) h)
+
+-- both readings
+pub both-read : (bytes : List ℕ) (x x′ y y′ : List Line) (r q : Result Header ReadFault) (g h : Header) (from : ℕ)
+    → Reading bytes 0 x x′ r → r ≡ Ok g → from ≡ size g → Reading bytes from y y′ q → q ≡ Ok h → BothAccepted bytes x x′ y y′ g h
+both-read bytes x x′ y y′ r q g h from a e f b i =
+    record { first = subst (Reading bytes 0 x x′) e a; second = subst (λ n. Accepted bytes n y y′ h) f (subst (Reading bytes from y y′) i b) }

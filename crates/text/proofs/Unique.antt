@@ -1,14 +1,13 @@
 -- Bytes have one reading at most. Assumes nothing.
 use mathlib.Core.Path.{_≡_, refl, sym, ap, subst, _∙_}
-use mathlib.Core.Bool.{Bool, true, false, cond}
+use mathlib.Core.Bool.{true}
 use mathlib.Core.List.{List, [], _∷_, _++_}
-use mathlib.Core.Logic.{_⊎_, inl, inr, ⊎-elim}
+use mathlib.Core.Logic.{⊎-elim}
 use Prim.Native.Nat.{ℕ, zero, suc, _+_, _*_, _-_, _<_, _≤_}
 use native.Mathlib.Omega.{arith}
 use lib.ListN.{length, take, drop}
-use lib.Seq.{take-add, drop-drop, take-at, drop-at}
+use lib.Seq.{drop-drop, take-at, drop-at}
 use Rattle.std.specs.shelf.Lists.{All}
-use Rattle.std.specs.declared.option.Option.the-variants.{Some, None}
 use Rattle.std.specs.declared.result.Result.{Result}
 use Rattle.std.specs.declared.result.Result.the-variants.{Ok, Err}
 use Rattle.std.proofs.shelf.Lists.{take-take, drop-take}
@@ -22,10 +21,10 @@ use Rattle.text.specs.declared.fault.ReadFault.the-variants.{Head, TooManyLine
 use Rattle.text.specs.Rows.{row-at, operand-field, Framed, word-of}
 use Rattle.text.specs.Faults.{order, FirstFailed}
 use Rattle.text.specs.Netlists.{takes-one, second-operand, Readable, Allowed, line-row, head-row, HeadRow, HeadTest, LineTest, lines-text, netlist-text}
-use Rattle.text.specs.Readings.{Stands, Begins, Filled, Accepted, HeadRefused, TooMany, LineRefused, Reading, Complete}
+use Rattle.text.specs.Readings.{Stands, Begins, Filled, Accepted, HeadRefused, TooMany, LineRefused, Reading, Reads}
 use Rattle.text.proofs.Guessing.{same-operand}
 use Rattle.text.proofs.Words.{same-kind}
-use Rattle.text.proofs.Tested.{line-number, line-word, line-first, line-second, line-framed, head-number, head-worded, head-framed, same-count, same-inputs, same-values}
+use Rattle.text.proofs.Tested.{line-number, line-word, line-first, line-second, line-framed, head-worded, head-framed, same-count, same-inputs, same-values}
 
 -- one first fault
 fault-of : ℕ → RowFault
@@ -66,7 +65,7 @@ head-passes s n i v h a Limits = (n, i, v, h, a)
 
 -- one line to a row
 unused-or : (k a b : ℕ) → a < 1000000 → b < 1000000 → (takes-one k ≡ true → a ≡ 0) → (takes-one k ≡ true → b ≡ 0)
-  → operand-field (second-operand k a) ≡ operand-field (second-operand k b) → a ≡ b
+    → operand-field (second-operand k a) ≡ operand-field (second-operand k b) → a ≡ b
 unused-or k a b h i u w e =
     ⊎-elim (λ t. u t ∙ sym (w t))
     (λ f. same-operand a b h i (ap operand-field (sym (cond-false _ _ _ f)) ∙ e ∙ ap operand-field (cond-false _ _ _ f)))
@@ -80,8 +79,8 @@ same-line n l m r q e =
     let k : l .kind ≡ m .kind = same-kind (l .kind) (m .kind) (r .known) (q .known) (sym (line-word n l r) ∙ ap word-of e ∙ line-word n m q) in
     let a : l .first ≡ m .first = same-operand (l .first) (m .first) (r .first) (q .first) (sym (line-first n l r) ∙ ap (λ t. take 6 (drop 12 t)) e ∙ line-first n m q) in
     let b : l .second ≡ m .second =
-          unused-or (l .kind) (l .second) (m .second) (r .second) (q .second) (r .unused) (λ t. q .unused (ap takes-one (sym k) ∙ t))
-          (sym (line-second n l r) ∙ ap (λ t. take 6 (drop 18 t)) e ∙ line-second n m q ∙ ap (λ j. operand-field (second-operand j (m .second))) (sym k)) in
+    unused-or (l .kind) (l .second) (m .second) (r .second) (q .second) (r .unused) (λ t. q .unused (ap takes-one (sym k) ∙ t))
+    (sym (line-second n l r) ∙ ap (λ t. take 6 (drop 18 t)) e ∙ line-second n m q ∙ ap (λ j. operand-field (second-operand j (m .second))) (sym k)) in
     same-fields l m k a b
 
 -- one list of lines to their rows
@@ -109,8 +108,8 @@ row-of n (l ∷ ls) zero h p =
 row-of n (l ∷ ls) (suc j) h p =
     let q = row-of (suc n) ls j (omega arith) (p .1) in
     let d : drop (25 * suc j) (line-row n l ++ lines-text (suc n) ls) ≡ drop (25 * j) (lines-text (suc n) ls) =
-          ap (λ m. drop m (line-row n l ++ lines-text (suc n) ls)) (omega arith) ∙ sym (drop-drop (25 * j) 25 (line-row n l ++ lines-text (suc n) ls))
-          ∙ ap (drop (25 * j)) (drop-at (line-row n l) _ 25 (line-framed n l (p .0) .whole)) in
+    ap (λ m. drop m (line-row n l ++ lines-text (suc n) ls)) (omega arith) ∙ sym (drop-drop (25 * j) 25 (line-row n l ++ lines-text (suc n) ls))
+    ∙ ap (drop (25 * j)) (drop-at (line-row n l) _ 25 (line-framed n l (p .0) .whole)) in
     (q .0, q .1, ap (take 25) d ∙ q .2 ∙ ap (λ m. line-row m (q .0)) (omega arith))
 
 front : (xs : List ℕ) (j n : ℕ) → j < n → take 25 (drop (25 * j) (take (25 * n) xs)) ≡ take 25 (drop (25 * j) xs)
@@ -120,13 +119,15 @@ front xs j n h =
 
 module _ (bytes : List ℕ) (from : ℕ) where
   begins-row : (n i v : ℕ) (ls : List Line) → Begins bytes from n i v ls → (j : ℕ) → j < length ls
-    → (l : Line) × Readable l × (row-at bytes (from + 25 * (j + 1)) ≡ line-row j l)
+      → (l : Line) × Readable l × (row-at bytes (from + 25 * (j + 1)) ≡ line-row j l)
   begins-row n i v ls b j h =
       let q = row-of 0 ls j h (b .readable) in
-      let e : from + 25 * (j + 1) ≡ (from + 25) + 25 * j = omega arith in
-      (q .0, q .1,
-       ap (row-at bytes) e ∙ ap (take 25) (sym (drop-drop (25 * j) (from + 25) bytes)) ∙ sym (front (drop (from + 25) bytes) j (length ls) h)
-       ∙ ap (λ t. take 25 (drop (25 * j) t)) (b .rows) ∙ q .2 ∙ ap (λ m. line-row m (q .0)) (omega arith))
+      let e : from + 25 * (j + 1) ≡ (from + 25) + 25 * j = omega arith in (
+        q .0,
+        q .1,
+        ap (row-at bytes) e ∙ ap (take 25) (sym (drop-drop (25 * j) (from + 25) bytes)) ∙ sym (front (drop (from + 25) bytes) j (length ls) h)
+            ∙ ap (λ t. take 25 (drop (25 * j) t)) (b .rows) ∙ q .2 ∙ ap (λ m. line-row m (q .0)) (omega arith),
+      )
 
   same-begun : (n i v m j w : ℕ) (ls ms : List Line) → Begins bytes from n i v ls → Begins bytes from m j w ms → length ls ≡ length ms → ls ≡ ms
   same-begun n i v m j w ls ms p q e =
@@ -143,11 +144,15 @@ module _ (bytes : List ℕ) (from : ℕ) where
       let t : take (25 + 25 * n) xs ≡ head-row n i v ++ lines-text 0 ls = ap (λ m. take m xs) (sym k) ∙ s .text in
       record {
         head = record {
-          small = s .short; few = let a = s .allowed .0 in omega arith; less = ⊎-elim (λ e. omega arith) (λ e. omega arith) (s .allowed .1);
-          text = sym (take-take 25 (25 + 25 * n) xs (omega arith)) ∙ ap (take 25) t ∙ take-at (head-row n i v) _ 25 x };
-        allowed = s .allowed;
+          small = s .writable .short;
+          few = let a = s .writable .allowed .0 in omega arith;
+          less = ⊎-elim (λ e. omega arith) (λ e. omega arith) (s .writable .allowed .1);
+          text = sym (take-take 25 (25 + 25 * n) xs (omega arith)) ∙ ap (take 25) t ∙ take-at (head-row n i v) _ 25 x;
+        };
+        allowed = s .writable .allowed;
         rows = ap (take (25 * n)) (sym (drop-drop 25 from bytes)) ∙ sym (drop-take 25 (25 * n) xs) ∙ ap (drop 25) t ∙ drop-at (head-row n i v) _ 25 x;
-        readable = s .readable }
+        readable = s .writable .readable;
+      }
 
   -- a good HEAD row leaves no other reading
   module _ (n i v : ℕ) (h : HeadRow (row-at bytes from) n i v) (a : Allowed i v) where
@@ -178,11 +183,12 @@ module _ (bytes : List ℕ) (from : ℕ) (x y z : List Line) where
       let s = row-at bytes from in
       let n = length (p .lines) in
       let m = length (q .lines) in
-      let e : n ≡ m = same-count s n (g .inputs) (g .values) m (h .inputs) (h .values) (b .head) (c .head) in
-      (same-header g h (sym (p .counted) ∙ e ∙ q .counted)
-         (same-inputs s n (g .inputs) (g .values) m (h .inputs) (h .values) (b .head) (c .head))
-         (same-values s n (g .inputs) (g .values) m (h .inputs) (h .values) (b .head) (c .head)),
-       same-after x y z (p .lines) (q .lines) (same-begun bytes from n (g .inputs) (g .values) m (h .inputs) (h .values) (p .lines) (q .lines) b c e) (p .filled) (q .filled))
+      let e : n ≡ m = same-count s n (g .inputs) (g .values) m (h .inputs) (h .values) (b .head) (c .head) in (
+        same-header g h (sym (p .counted) ∙ e ∙ q .counted)
+            (same-inputs s n (g .inputs) (g .values) m (h .inputs) (h .values) (b .head) (c .head))
+            (same-values s n (g .inputs) (g .values) m (h .inputs) (h .values) (b .head) (c .head)),
+        same-after x y z (p .lines) (q .lines) (same-begun bytes from n (g .inputs) (g .values) m (h .inputs) (h .values) (p .lines) (q .lines) b c e) (p .filled) (q .filled),
+      )
 
   accepted-or-head : (g : Header) (f : RowFault) → Accepted bytes from x y g → HeadRefused bytes from x z f → ⊥
   accepted-or-head g f p q =
@@ -216,11 +222,12 @@ module _ (bytes : List ℕ) (from : ℕ) (x y z : List Line) where
       no-line-fault bytes from (q .count) (q .inputs) (q .values) (q .begins .head) (q .begins .allowed) x y (q .lines) (q .begins) j f (omega arith) p
 
   both-at : (j k : ℕ) (f g : RowFault) → j ≡ k → LineRefused bytes from x y j f → LineRefused bytes from x z k g → (f ≡ g) × (y ≡ z)
-  both-at j k f g e p q =
-      (first-unique (LineTest k (row-at bytes (from + 25 * (k + 1)))) f g (subst (λ m. FirstFailed (LineTest m (row-at bytes (from + 25 * (m + 1)))) f) e (p .failed)) (q .failed),
-       same-after x y z (p .lines) (q .lines)
-         (same-begun bytes from (p .count) (p .inputs) (p .values) (q .count) (q .inputs) (q .values) (p .lines) (q .lines) (p .begins) (q .begins) (p .turn ∙ e ∙ sym (q .turn)))
-         (p .filled) (q .filled))
+  both-at j k f g e p q = (
+    first-unique (LineTest k (row-at bytes (from + 25 * (k + 1)))) f g (subst (λ m. FirstFailed (LineTest m (row-at bytes (from + 25 * (m + 1)))) f) e (p .failed)) (q .failed),
+    same-after x y z (p .lines) (q .lines)
+        (same-begun bytes from (p .count) (p .inputs) (p .values) (q .count) (q .inputs) (q .values) (p .lines) (q .lines) (p .begins) (q .begins) (p .turn ∙ e ∙ sym (q .turn)))
+        (p .filled) (q .filled),
+  )
 
 at-lines : (j k : ℕ) (f g : RowFault) → j ≡ k → f ≡ g → AtLine j f ≡ AtLine k g
 at-lines j k f g p q = ap (λ m. AtLine m f) p ∙ ap (AtLine k) q
@@ -251,8 +258,13 @@ functional bytes from x y z (Err (AtLine j f)) (Err (AtLine k g)) p q =
     (⊎-elim (λ l. absurd (not-later bytes from x y z j k f g l p q)) (λ l. absurd (not-later bytes from x z y k j g f l q p)))
     (cases-order j k)
 
--- so what stands there is what is read
-pub complete : (bytes : List ℕ) (from : ℕ) (x y : List Line) (r : Result Header ReadFault) → Reading bytes from x y r → Complete bytes from x y r
-complete bytes from x y r p i v ls s l =
-    functional bytes from x y (ls ++ drop (length ls) x) r (Ok (record { lines = length ls; inputs = i; values = v })) p
-    (record { lines = ls; counted = refl; stands = s; filled = record { fits = l; after-is = refl } })
+-- what a reading tells in full
+pub reads : (bytes : List ℕ) (from : ℕ) (x y : List Line) (r : Result Header ReadFault) → Reading bytes from x y r → Reads bytes from x y r
+reads bytes from x y r p =
+    record {
+      reading = p;
+      only = λ z q h. functional bytes from x z y q r h p;
+      complete = λ i v ls s l.
+          functional bytes from x y (ls ++ drop (length ls) x) r (Ok (record { lines = length ls; inputs = i; values = v })) p
+          (record { lines = ls; counted = refl; stands = s; filled = record { fits = l; after-is = refl } });
+    }

@@ -1,9 +1,9 @@
 -- Texts written one after the other. Assumes nothing.
 use mathlib.Core.Path.{_≡_, refl, sym, ap, subst, _∙_}
-use mathlib.Core.List.{List, [], _∷_, _++_, append-assoc, append-nil}
-use Prim.Native.Nat.{ℕ, suc, _+_, _*_, _-_, _<_, _≤_}
+use mathlib.Core.List.{List, [], _∷_, _++_, append-assoc}
+use Prim.Native.Nat.{ℕ, suc, _+_, _<_, _≤_}
 use native.Mathlib.Omega.{arith}
-use lib.ListN.{length, take, drop, set, length-take, length-drop}
+use lib.ListN.{length, take, drop, set, length-drop}
 use lib.Seq.{drop-drop, take-at, drop-at}
 use borrow.Rule.Slice.PartMut.{putMid}
 use Rattle.std.proofs.shelf.Lists.{length-append, length-take-le, set-split, take-append-drop}
@@ -57,8 +57,9 @@ module _ (s : List ℕ) (at : ℕ) (x y : List ℕ) (e : ℕ) (w : Written s at 
       record {
         fits = omega arith;
         after-is = v .after-is ∙ ap (λ u. u ++ (t ++ drop (e + length t) y)) front ∙ ap (λ u. (take at x ++ s) ++ (t ++ u)) rest
-          ∙ append-assoc (take at x) s (t ++ drop (at + length (s ++ t)) x) ∙ ap (λ u. take at x ++ u) (sym (append-assoc s t (drop (at + length (s ++ t)) x)));
-        end-is = omega arith }
+            ∙ append-assoc (take at x) s (t ++ drop (at + length (s ++ t)) x) ∙ ap (λ u. take at x ++ u) (sym (append-assoc s t (drop (at + length (s ++ t)) x)));
+        end-is = omega arith;
+      }
 
 pub written-as : (s t : List ℕ) (at : ℕ) (x y : List ℕ) (e : ℕ) → s ≡ t → Written s at x y e → Written t at x y e
 written-as s t at x y e q w = subst (λ u. Written u at x y e) q w

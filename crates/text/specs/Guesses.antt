@@ -1,6 +1,6 @@
 -- The number that a field can hold at most, whatever its bytes are: the reader guesses it, writes it and compares. Only
 -- the contracts of inner functions cite this. Assumes nothing.
-use mathlib.Core.Bool.{Bool, true, false, cond, _&&_}
+use mathlib.Core.Bool.{cond, _&&_}
 use mathlib.Core.List.{List}
 use Prim.Native.Nat.{ℕ, _+_, _-_, _*_}
 use lib.Dec.{leb}

@@ -1,19 +1,19 @@
 -- The text of a netlist: a HEAD row and a row for each line. Assumes nothing.
 use mathlib.Core.Path.{_≡_}
-use mathlib.Core.Bool.{Bool, true, false, cond, _||_}
+use mathlib.Core.Bool.{Bool, true, cond, _||_}
 use mathlib.Core.List.{List, [], _∷_, _++_}
 use mathlib.Core.Logic.{_⊎_}
-use Prim.Native.Nat.{ℕ, suc, _+_, _*_, _<_, _≤_}
+use Prim.Native.Nat.{ℕ, suc, _<_, _≤_}
 use lib.Chars.{codes}
 use lib.Dec.{eqb}
-use lib.ListN.{length, getD, take, drop}
+use lib.ListN.{length, getD, take}
 use Rattle.std.specs.shelf.Lists.{All}
 use Rattle.std.specs.declared.option.Option.{Option}
 use Rattle.std.specs.declared.option.Option.the-variants.{Some, None}
 use Rattle.netlist.specs.declared.line.Line.{Line}
 use Rattle.text.specs.declared.fault.RowFault.{RowFault}
 use Rattle.text.specs.declared.fault.RowFault.the-variants.{Incomplete, Word, Field, OutOfTurn, Limits}
-use Rattle.text.specs.Rows.{number-field, row, row-at, Framed, word-of}
+use Rattle.text.specs.Rows.{number-field, row, Framed, word-of}
 
 -- the names of the kinds, by their numbers
 abbrev pub kind-words : List (List ℕ)
@@ -81,6 +81,12 @@ HeadTest s Word = word-of s ≡ head-word
 HeadTest s Field = (count : ℕ) × (inputs : ℕ) × (values : ℕ) × HeadRow s count inputs values
 HeadTest s OutOfTurn = Unit {0}
 HeadTest s Limits = (count : ℕ) × (inputs : ℕ) × (values : ℕ) × HeadRow s count inputs values × Allowed inputs values
+
+-- a netlist that has a text
+pub record Writable (inputs values : ℕ) (lines : List Line) : Type 0 where
+  pub short : length lines < 100000
+  pub readable : All Readable lines
+  pub allowed : Allowed inputs values
 
 -- the rows of lines, the first of which has the number n
 unfoldable pub lines-text : ℕ → List Line → List ℕ

@@ -3,7 +3,6 @@ use mathlib.Core.Path.{_≡_}
 use mathlib.Core.List.{List, _++_}
 use Prim.Native.Nat.{ℕ, _+_, _*_, _<_, _≤_}
 use lib.ListN.{length, drop}
-use Rattle.std.specs.shelf.Lists.{All}
 use Rattle.std.specs.declared.result.Result.{Result}
 use Rattle.std.specs.declared.result.Result.the-variants.{Ok, Err}
 use Rattle.netlist.specs.declared.line.Line.{Line}
@@ -12,7 +11,7 @@ use Rattle.text.specs.declared.header.Pair.{Pair}
 use Rattle.text.specs.declared.fault.ReadFault.{ReadFault}
 use Rattle.text.specs.declared.fault.PairFault.{PairFault}
 use Rattle.text.specs.declared.fault.PairFault.the-variants.{First, Second, Trailing, Heads}
-use Rattle.text.specs.Netlists.{Readable, Allowed, netlist-text}
+use Rattle.text.specs.Netlists.{Writable, netlist-text}
 use Rattle.text.specs.Readings.{Accepted, Reading}
 
 -- the bytes of a netlist's rows
@@ -34,7 +33,7 @@ pub record PairAccepted (bytes : List ℕ) (x x′ y y′ : List Line) (pair : P
   pub alike : Alike (pair .first) (pair .second)
   pub ended : size (pair .first) + size (pair .second) ≡ length bytes
   pub text : bytes ≡ netlist-text (pair .first .inputs) (pair .first .values) (both .first .lines)
-    ++ netlist-text (pair .second .inputs) (pair .second .values) (both .second .lines)
+      ++ netlist-text (pair .second .inputs) (pair .second .values) (both .second .lines)
 
 -- the first netlist is refused, and the second one not looked at
 pub record FirstRefused (bytes : List ℕ) (x x′ y y′ : List Line) (fault : ReadFault) : Type 0 where
@@ -69,16 +68,12 @@ PairReading bytes x x′ y y′ (Err (Second fault)) = SecondRefused bytes x x�
 PairReading bytes x x′ y y′ (Err Trailing) = Followed bytes x x′ y y′
 PairReading bytes x x′ y y′ (Err Heads) = Unlike bytes x x′ y y′
 
--- a netlist that has a text, with so many inputs and values
-pub record Sound (inputs values : ℕ) (lines : List Line) : Type 0 where
-  pub short : length lines < 100000
-  pub readable : All Readable lines
-  pub allowed : Allowed inputs values
-
--- any two netlists of the same inputs and values, whose texts the bytes are and that the lists have room for, are read
-abbrev pub PairComplete : List ℕ → List Line → List Line → List Line → List Line → Result Pair PairFault → Type 0
-PairComplete bytes x x′ y y′ r =
-    (inputs values : ℕ) (ls ms : List Line) → Sound inputs values ls → Sound inputs values ms → length ls ≤ length x → length ms ≤ length y
-    → bytes ≡ netlist-text inputs values ls ++ netlist-text inputs values ms
-    → (r ≡ Ok (record { first = record { lines = length ls; inputs = inputs; values = values }; second = record { lines = length ms; inputs = inputs; values = values } }))
+-- the answer, that no other answer would do, and that any two netlists of the same inputs and values, whose texts the bytes
+-- are and that the lists have room for, are read
+pub record ReadsPair (bytes : List ℕ) (x x′ y y′ : List Line) (r : Result Pair PairFault) : Type 0 where
+  pub reading : PairReading bytes x x′ y y′ r
+  pub only : (x″ y″ : List Line) (q : Result Pair PairFault) → PairReading bytes x x″ y y″ q → (q ≡ r) × (x″ ≡ x′) × (y″ ≡ y′)
+  pub complete : (inputs values : ℕ) (ls ms : List Line) → Writable inputs values ls → Writable inputs values ms → length ls ≤ length x → length ms ≤ length y
+      → bytes ≡ netlist-text inputs values ls ++ netlist-text inputs values ms
+      → (r ≡ Ok (record { first = record { lines = length ls; inputs = inputs; values = values }; second = record { lines = length ms; inputs = inputs; values = values } }))
       × (x′ ≡ ls ++ drop (length ls) x) × (y′ ≡ ms ++ drop (length ms) y)

@@ -13,14 +13,12 @@ use Rattle.text.specs.declared.fault.ReadFault.{ReadFault}
 use Rattle.text.specs.declared.fault.ReadFault.the-variants.{Head, TooManyLines, AtLine}
 use Rattle.text.specs.Rows.{row-at}
 use Rattle.text.specs.Faults.{FirstFailed}
-use Rattle.text.specs.Netlists.{Readable, Allowed, HeadRow, HeadTest, LineTest, lines-text, netlist-text}
+use Rattle.text.specs.Netlists.{Readable, Writable, Allowed, HeadRow, HeadTest, LineTest, lines-text, netlist-text}
 
 -- the text of a netlist stands in the bytes from a place on
 pub record Stands (bytes : List ℕ) (from inputs values : ℕ) (lines : List Line) : Type 0 where
   pub text : take (25 * (length lines + 1)) (drop from bytes) ≡ netlist-text inputs values lines
-  pub short : length lines < 100000
-  pub readable : All Readable lines
-  pub allowed : Allowed inputs values
+  pub writable : Writable inputs values lines
 
 -- a good HEAD row stands there, which counts so many lines, and after it the rows of the first ones
 pub record Begins (bytes : List ℕ) (from count inputs values : ℕ) (lines : List Line) : Type 0 where
@@ -76,8 +74,10 @@ Reading bytes from before after (Err (Head fault)) = HeadRefused bytes from befo
 Reading bytes from before after (Err TooManyLines) = TooMany bytes from before after
 Reading bytes from before after (Err (AtLine due fault)) = LineRefused bytes from before after due fault
 
--- every netlist that stands there, and that the list has room for, is read
-abbrev pub Complete : List ℕ → ℕ → List Line → List Line → Result Header ReadFault → Type 0
-Complete bytes from before after r =
-    (inputs values : ℕ) (lines : List Line) → Stands bytes from inputs values lines → length lines ≤ length before
-    → (r ≡ Ok (record { lines = length lines; inputs = inputs; values = values })) × (after ≡ lines ++ drop (length lines) before)
+-- the answer, that no other answer would do, and that every netlist which stands there, and that the list has room for, is
+-- read
+pub record Reads (bytes : List ℕ) (from : ℕ) (before after : List Line) (r : Result Header ReadFault) : Type 0 where
+  pub reading : Reading bytes from before after r
+  pub only : (later : List Line) (q : Result Header ReadFault) → Reading bytes from before later q → (q ≡ r) × (later ≡ after)
+  pub complete : (inputs values : ℕ) (lines : List Line) → Stands bytes from inputs values lines → length lines ≤ length before
+      → (r ≡ Ok (record { lines = length lines; inputs = inputs; values = values })) × (after ≡ lines ++ drop (length lines) before)

@@ -82,7 +82,7 @@ pub impl From<RowFault> for ReadFault as ReadFromRow {
 }
 
 // What the row of a line came to, with the line's number at its fault.
-pub fn at_line<T>(r: Result<T, RowFault>, due: u32) -> Result<T, ReadFault>
+pub(crate) fn at_line<T>(r: Result<T, RowFault>, due: u32) -> Result<T, ReadFault>
     ensures { λ q. ⌜ ByOk q (λ x. r ≡ Ok x) (λ e. (d : RowFaults) × (e ≡ AtLine due d) × (r ≡ Err d)) ⌝ }
 {
     match r {
@@ -141,7 +141,7 @@ impl PairFault {
 }
 
 // What reading the first netlist of two came to.
-pub fn in_first<T>(r: Result<T, ReadFault>) -> Result<T, PairFault>
+pub(crate) fn in_first<T>(r: Result<T, ReadFault>) -> Result<T, PairFault>
     ensures { λ q. ⌜ ByOk q (λ x. r ≡ Ok x) (λ e. (d : ReadFaults) × (e ≡ First d) × (r ≡ Err d)) ⌝ }
 {
     match r {
@@ -151,7 +151,7 @@ pub fn in_first<T>(r: Result<T, ReadFault>) -> Result<T, PairFault>
 }
 
 // What reading the second one came to.
-pub fn in_second<T>(r: Result<T, ReadFault>) -> Result<T, PairFault>
+pub(crate) fn in_second<T>(r: Result<T, ReadFault>) -> Result<T, PairFault>
     ensures { λ q. ⌜ ByOk q (λ x. r ≡ Ok x) (λ e. (d : ReadFaults) × (e ≡ Second d) × (r ≡ Err d)) ⌝ }
 {
     match r {

@@ -15,7 +15,7 @@ use netlist::Kind;
 // A field is read by a guess: its bytes come to one number at most, which is written again and compared. So the writers
 // alone say what a field looks like.
 
-pub fn same(s: &[u8], t: &[u8]) -> bool
+pub(crate) fn same(s: &[u8], t: &[u8]) -> bool
     ensures { λ r. ⌜ Decides r (now (s .entry) ≡ now (t .entry)) ⌝ }
 {
     s == t
@@ -25,11 +25,15 @@ fn shown_digit(n: u64, place: u64) -> u8
     requires { ⌜ 0 < place ⌝ }
     ensures { λ r. ⌜ r ≡ shown n place ⌝ }
 {
-    if n < place { b' ' } else { b'0' + (n / place % 10) as u8 }
+    if n < place {
+        b' '
+    } else {
+        b'0' + (n / place % 10) as u8
+    }
 }
 
 // A number in five columns.
-pub fn number_bytes(n: u64) -> [u8; 5]
+pub(crate) fn number_bytes(n: u64) -> [u8; 5]
     ensures { λ r. ⌜ r ≡ number-field n ⌝ }
 {
     [
@@ -42,7 +46,7 @@ pub fn number_bytes(n: u64) -> [u8; 5]
 }
 
 // An operand in six columns.
-pub fn operand_bytes(operand: Option<u32>) -> [u8; 6]
+pub(crate) fn operand_bytes(operand: Option<u32>) -> [u8; 6]
     ensures { λ r. ⌜ r ≡ operand-field operand ⌝ }
 {
     match operand {
@@ -64,7 +68,11 @@ pub fn operand_bytes(operand: Option<u32>) -> [u8; 6]
 fn value(b: u8) -> u32
     ensures { λ r. ⌜ r ≡ digit-value b ⌝ ∗ ⌜ r < 10 ⌝ }
 {
-    if b >= b'0' && b <= b'9' { (b - b'0') as u32 } else { 0 }
+    if b >= b'0' && b <= b'9' {
+        (b - b'0') as u32
+    } else {
+        0
+    }
 }
 
 fn guess5(s: &[u8]) -> u32
@@ -83,25 +91,33 @@ fn guess6(s: &[u8]) -> u32
 }
 
 // The number of a row.
-pub fn read_number(s: &[u8]) -> Option<u32>
+pub(crate) fn read_number(s: &[u8]) -> Option<u32>
     requires { ⌜ length (now s) ≡ 5 ⌝ }
     ensures { λ r. ⌜ BySome r ((n : ℕ) → n < 100000 → now (s .entry) ≡ number-field n → ⊥) (λ n. (n < 100000) × (now (s .entry) ≡ number-field n)) ⌝ }
 {
     let n = guess5(s);
-    if same(s, &number_bytes(n as u64)) { Some(n) } else { None }
+    if same(s, &number_bytes(n as u64)) {
+        Some(n)
+    } else {
+        None
+    }
 }
 
 // An operand that is in use.
-pub fn read_operand(s: &[u8]) -> Option<u32>
+pub(crate) fn read_operand(s: &[u8]) -> Option<u32>
     requires { ⌜ length (now s) ≡ 6 ⌝ }
     ensures { λ r. ⌜ BySome r ((n : ℕ) → n < 1000000 → now (s .entry) ≡ operand-field (Some n) → ⊥) (λ n. (n < 1000000) × (now (s .entry) ≡ operand-field (Some n))) ⌝ }
 {
     let n = guess6(s);
-    if same(s, &operand_bytes(Some(n))) { Some(n) } else { None }
+    if same(s, &operand_bytes(Some(n))) {
+        Some(n)
+    } else {
+        None
+    }
 }
 
 // The kind that a word names.
-pub fn read_kind(s: &[u8]) -> Option<Kind>
+pub(crate) fn read_kind(s: &[u8]) -> Option<Kind>
     ensures { λ r. ⌜ BySome r ((k : ℕ) → k < 9 → now (s .entry) ≡ kind-word k → ⊥) (λ k. now (s .entry) ≡ kind-word (kind-number k)) ⌝ }
 {
     if same(s, b"INPUT ") {
@@ -145,7 +161,7 @@ fn takes_one_operand(kind: Kind) -> bool
 }
 
 // The second operand of a line: 0 where it is unused, and then a hyphen stands in its field.
-pub fn read_second(kind: Kind, s: &[u8]) -> Option<u32>
+pub(crate) fn read_second(kind: Kind, s: &[u8]) -> Option<u32>
     requires { ⌜ length (now s) ≡ 6 ⌝ }
     ensures { λ r. ⌜ BySome r
         ((n : ℕ) → n < 1000000 → now (s .entry) ≡ operand-field (second-operand (kind-number kind) n) → ⊥)

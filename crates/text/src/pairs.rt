@@ -1,7 +1,7 @@
 ghost use mathlib.Core.Path.{_≡_};
 ghost use Prim.Native.Nat.{_+_, _*_};
 ghost use Rattle.std.specs.Orderings.{Decides};
-ghost use Rattle.text.specs.Pairs.{size, Alike, PairReading, PairComplete};
+ghost use Rattle.text.specs.Pairs.{size, Alike, ReadsPair};
 use crate::fault::PairFault;
 use crate::fault::in_first;
 use crate::fault::in_second;
@@ -26,8 +26,7 @@ fn alike(one: Header, two: Header) -> bool
 
 // Reads two netlists in a row, which are all that the bytes hold, each into a list of its own.
 pub fn read_pair(bytes: &[u8], first: &mut [Line], second: &mut [Line]) -> Result<Pair, PairFault>
-    ensures reading { λ r. ⌜ PairReading (now (bytes .entry)) (now (first .entry)) (now (first .exit)) (now (second .entry)) (now (second .exit)) r ⌝ }
-    ensures complete { λ r. ⌜ PairComplete (now (bytes .entry)) (now (first .entry)) (now (first .exit)) (now (second .entry)) (now (second .exit)) r ⌝ }
+    ensures { λ r. ⌜ ReadsPair (now (bytes .entry)) (now (first .entry)) (now (first .exit)) (now (second .entry)) (now (second .exit)) r ⌝ }
 {
     let one = in_first(read_netlist(bytes, 0, first))?;
     let from = text_size(one);

@@ -1,4 +1,4 @@
-ghost use Rattle.text.specs.Readings.{Reading, Complete};
+ghost use Rattle.text.specs.Readings.{Reads};
 use crate::fault::ReadFault;
 use crate::fault::ReadFromRow;
 use crate::fault::at_line;
@@ -11,8 +11,7 @@ use netlist::Line;
 // Reads the netlist whose text stands in the bytes from a place on. Its lines become the first entries of the list; those
 // before a refused line stay there, and the other entries are as before.
 pub fn read_netlist(bytes: &[u8], from: usize, lines: &mut [Line]) -> Result<Header, ReadFault>
-    ensures reading { λ r. ⌜ Reading (now (bytes .entry)) from (now (lines .entry)) (now (lines .exit)) r ⌝ }
-    ensures complete { λ r. ⌜ Complete (now (bytes .entry)) from (now (lines .entry)) (now (lines .exit)) r ⌝ }
+    ensures { λ r. ⌜ Reads (now (bytes .entry)) from (now (lines .entry)) (now (lines .exit)) r ⌝ }
 {
     let header = read_head(bytes, from)?;
     if header.lines as usize > lines.len() {

@@ -1,6 +1,5 @@
 ghost use mathlib.Core.Path.{_≡_};
-ghost use Prim.Native.Nat.{ℕ, _<_};
-ghost use lib.ListN.{length};
+ghost use Prim.Native.Nat.{_<_};
 ghost use Rattle.std.specs.Options.{Cases as BySome};
 ghost use Rattle.std.specs.Orderings.{Decides};
 ghost use Rattle.std.specs.Results.{Cases as ByOk};
@@ -17,7 +16,7 @@ use crate::header::Header;
 use netlist::Line;
 
 // A row with its line feed.
-pub const ROW: usize = 25;
+pub(crate) const ROW: usize = 25;
 
 // The row at a place, where it stands there whole, with its space and its line feed.
 fn row_at(bytes: &[u8], at: usize) -> Option<&[u8]>
@@ -44,7 +43,7 @@ fn allowed(inputs: u32, values: u32) -> bool
 }
 
 // The HEAD row at a place.
-pub fn read_head(bytes: &[u8], at: usize) -> Result<Header, RowFault>
+pub(crate) fn read_head(bytes: &[u8], at: usize) -> Result<Header, RowFault>
     ensures { λ r. ⌜ ByOk r
         (λ h. HeadRow (row-at (now (bytes .entry)) at) (h .lines) (h .inputs) (h .values) × Allowed (h .inputs) (h .values))
         (FirstFailed (HeadTest (row-at (now (bytes .entry)) at))) ⌝ }
@@ -75,7 +74,7 @@ pub fn read_head(bytes: &[u8], at: usize) -> Result<Header, RowFault>
 }
 
 // The row of the line that is due, at a place.
-pub fn read_line(bytes: &[u8], at: usize, due: u32) -> Result<Line, RowFault>
+pub(crate) fn read_line(bytes: &[u8], at: usize, due: u32) -> Result<Line, RowFault>
     requires { ⌜ due < 100000 ⌝ }
     ensures { λ r. ⌜ ByOk r
         (λ l. Readable l × (row-at (now (bytes .entry)) at ≡ line-row due l))

@@ -1,6 +1,5 @@
 ghost use mathlib.Core.Path.{_≡_};
-ghost use mathlib.Core.List.{map};
-ghost use Prim.Native.Nat.{ℕ, _+_, _<_, _≤_};
+ghost use Prim.Native.Nat.{_+_, _<_, _≤_};
 ghost use lib.ListN.{length};
 ghost use Rattle.std.specs.Options.{Cases as BySome};
 ghost use Rattle.std.specs.Orderings.{Decides};
@@ -50,7 +49,13 @@ fn put(out: &mut [u8], at: usize, text: &[u8]) -> usize
 }
 
 // The first row of a report, "    1 TRIED      4" and its line feed.
-pub fn write_summary(out: &mut [u8], at: usize, pairs: u32, word: Summary, number: u32) -> Option<usize>
+pub fn write_summary(
+    out: &mut [u8],
+    at: usize,
+    pairs: u32,
+    word: Summary,
+    number: u32,
+) -> Option<usize>
     ensures { λ r. ⌜ BySome r
         (Unwritten (summary-row pairs word number) at (now (out .entry)) (now (out .exit)))
         (Written (summary-row pairs word number) at (now (out .entry)) (now (out .exit))) ⌝ }
@@ -66,7 +71,13 @@ pub fn write_summary(out: &mut [u8], at: usize, pairs: u32, word: Summary, numbe
 }
 
 // The row of a refusal, "   28 FAULT      1     7" and its line feed.
-pub fn write_fault(out: &mut [u8], at: usize, number: u8, netlist: u8, line: Option<u32>) -> Option<usize>
+pub fn write_fault(
+    out: &mut [u8],
+    at: usize,
+    number: u8,
+    netlist: u8,
+    line: Option<u32>,
+) -> Option<usize>
     ensures { λ r. ⌜ BySome r
         (Unwritten (fault-row number netlist line) at (now (out .entry)) (now (out .exit)))
         (Written (fault-row number netlist line) at (now (out .entry)) (now (out .exit))) ⌝ }
@@ -131,7 +142,13 @@ fn rows_fit(room: usize, width: u8, findings: &[Finding]) -> bool
 }
 
 // Writes the rest of the row of a pair that is not clean, and answers its end.
-fn put_difference<G: Algebra>(algebra: &G, out: &mut [u8], at: usize, width: u8, d: Difference) -> usize
+fn put_difference<G: Algebra>(
+    algebra: &G,
+    out: &mut [u8],
+    at: usize,
+    width: u8,
+    d: Difference,
+) -> usize
     requires { ⌜ at + (8 + width) ≤ length (now out) ⌝ }
     ensures { λ r. ⌜ Written (difference (G·Algebra .ops .letter) width d) at (now (out .entry)) (now (out .exit)) r ⌝ }
 {
@@ -144,7 +161,14 @@ fn put_difference<G: Algebra>(algebra: &G, out: &mut [u8], at: usize, width: u8,
 }
 
 // Writes the row of the pair of a number, which fits, and answers its end.
-fn put_finding<G: Algebra>(algebra: &G, out: &mut [u8], at: usize, width: u8, number: usize, finding: Finding) -> usize
+fn put_finding<G: Algebra>(
+    algebra: &G,
+    out: &mut [u8],
+    at: usize,
+    width: u8,
+    number: usize,
+    finding: Finding,
+) -> usize
     requires { ⌜ at + finding-size width finding ≤ length (now out) ⌝ }
     ensures { λ r. ⌜ Written (finding-row (G·Algebra .ops .letter) width number finding) at (now (out .entry)) (now (out .exit)) r ⌝ }
 {

@@ -15,9 +15,10 @@ loop-number-again c =
     let n = c .loop-number .count in
     let h : i < length ls = c .loop-number-test .taken in
     let room : length ls ≤ length vs = (let r = c .pre in let k = c .loop-number .kept .values in omega arith) in
-    elim (c .if-line-eq-OUT .came)
-    [ then-line-eq-OUT w ↦ rw (w .values-is, w .count-is) (kept-out ls old vs i n (c .loop-number .inv) _ h room _ refl (w .if-line-eq-OUT .taken))
-    | else-line-eq-OUT w ↦ rw (w .values-is, w .count-is) (kept-other ls old vs i n (c .loop-number .inv) _ h room (w .if-line-eq-OUT .left)) ]
+    elim (c .if-line-eq-OUT .came) [
+      | then-line-eq-OUT w ↦ rw (w .values-is, w .count-is) (kept-out ls old vs i n (c .loop-number .inv) _ h room _ refl (w .if-line-eq-OUT .taken))
+      | else-line-eq-OUT w ↦ rw (w .values-is, w .count-is) (kept-other ls old vs i n (c .loop-number .inv) _ h room (w .if-line-eq-OUT .left))
+    ]
 
 pub returns : need.returns
 returns c =

@@ -11,9 +11,9 @@ returns g c =
     let p = c .args .pattern .number in
     let ss = line-signals (g .G·Algebra .ops) (c .args .pattern .width) ls in
     let same =
-        c .keep-outs .ensures .kept
-        ∙ ap (outs ls) (c .fill-values .ensures)
-        ∙ outs-append ls _ _ (length-map ss (λ s. s p) ∙ signals-length (g .G·Algebra .ops) (c .args .pattern .width) ls)
-        ∙ outs-map (λ s. s p) ls ss
+    c .keep-outs .ensures .kept
+    ∙ ap (outs ls) (c .fill-values .ensures)
+    ∙ outs-append ls _ _ (length-map ss (λ s. s p) ∙ signals-length (g .G·Algebra .ops) (c .args .pattern .width) ls)
+    ∙ outs-map (λ s. s p) ls ss
     in
     same

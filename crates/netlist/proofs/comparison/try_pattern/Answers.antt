@@ -58,8 +58,8 @@ returns g c =
       graded = λ known.
           let e = c .number .ensures in
           c .regrade-pairs .ensures ss ts (es ∙ sym (c .pre .pairs)) (et ∙ c .pre .accepted .pairs ∙ sym es)
-            (ap (take (length ss)) (front-part a b (a - 0) (a + b - a) xs u v e0 e1 lu lv) ∙ ap (λ k. take k u) es ∙ c .out-values .ensures ∙ ap (λ k. values-at k ss) (sym e))
-            (ap (take (length ss)) (back-part a b (a - 0) (a + b - a) xs u v e0 e1 lu lv) ∙ ap (λ k. take k v) (es ∙ sym (c .pre .accepted .pairs)) ∙ c .out-values-2 .ensures ∙ ap (λ k. values-at k ts) (sym e))
-            (known ∙ ap (λ k. zipped (finding-below o k) ss ts) (sym e))
+          (ap (take (length ss)) (front-part a b (a - 0) (a + b - a) xs u v e0 e1 lu lv) ∙ ap (λ k. take k u) es ∙ c .out-values .ensures ∙ ap (λ k. values-at k ss) (sym e))
+          (ap (take (length ss)) (back-part a b (a - 0) (a + b - a) xs u v e0 e1 lu lv) ∙ ap (λ k. take k v) (es ∙ sym (c .pre .accepted .pairs)) ∙ c .out-values-2 .ensures ∙ ap (λ k. values-at k ts) (sym e))
+          (known ∙ ap (λ k. zipped (finding-below o k) ss ts) (sym e))
           ∙ ap (λ k. zipped (finding-below o (k + 1)) ss ts) e;
     }

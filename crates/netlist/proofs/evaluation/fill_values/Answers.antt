@@ -32,9 +32,10 @@ loop-number-again g c =
     let long : length ss ≡ i = signals-length o n (take i ls) ∙ length-take-le i ls (omega arith) in
     let read = getD-default ls i _ _ h in
     let value = c .line-value .ensures ss long (valued p ss _ (c .loop-number .values) (c .loop-number .inv .0)) in
-    let accepted = line-accepted o n ls i _ h (sym (c .loop-number .inv .1) ∙ c .pre .accepted) in
-    (filled-more o n p ls i _ (c .args .values .now) (c .loop-number .values) (c .line-value .result) h (let r = c .pre .room in omega arith) read (c .loop-number .inv .0) value,
-     c .loop-number .inv .1 ∙ fault-passed o n ls i _ h read accepted)
+    let accepted = line-accepted o n ls i _ h (sym (c .loop-number .inv .1) ∙ c .pre .accepted) in (
+      filled-more o n p ls i _ (c .args .values .now) (c .loop-number .values) (c .line-value .result) h (let r = c .pre .room in omega arith) read (c .loop-number .inv .0) value,
+      c .loop-number .inv .1 ∙ fault-passed o n ls i _ h read accepted,
+    )
 
 pub returns : need.returns
 returns g c =

@@ -33,7 +33,8 @@ returns-then-not-allowed c =
     (not-from-decides (c .allowed .result) (c .allowed .ensures) (c .if-not-allowed .taken))
 
 pub returns : need.returns
-returns c =
-    (is-head (c .in-Some .row .now) _ (c .in-Some .ensures tt .0) (c .in-Some .ensures tt .1) (c .in-Some-read-number .lines) (c .in-Some-read-operand .inputs) (c .in-Some-read-operand-2 .values)
-       (c .same .ensures .0 (c .if-not-same .left)) (c .in-Some-read-number .ensures tt) (c .in-Some-read-operand .ensures tt) (c .in-Some-read-operand-2 .ensures tt),
-     c .allowed .ensures .0 (c .if-not-allowed .left))
+returns c = (
+  is-head (c .in-Some .row .now) _ (c .in-Some .ensures tt .0) (c .in-Some .ensures tt .1) (c .in-Some-read-number .lines) (c .in-Some-read-operand .inputs) (c .in-Some-read-operand-2 .values)
+      (c .same .ensures .0 (c .if-not-same .left)) (c .in-Some-read-number .ensures tt) (c .in-Some-read-operand .ensures tt) (c .in-Some-read-operand-2 .ensures tt),
+  c .allowed .ensures .0 (c .if-not-allowed .left),
+)

@@ -1,8 +1,6 @@
-use Prim.Native.Nat.{_<_, _-_, _+_}
-use mathlib.Core.Path.{_≡_, ap, subst}
+use Prim.Native.Nat.{_<_}
 use native.Mathlib.Omega.{arith}
-use lib.ListN.{length, take, drop, getD, length-take, length-drop}
-use Rattle.text.specs.Rows.{Framed}
+use lib.ListN.{length, take, drop, length-take, length-drop}
 use Rattle.text.proofs.row.row_at.Needs as need
 
 pub returns-then-bytes-lt-ROW : need.returns-then-bytes-lt-ROW

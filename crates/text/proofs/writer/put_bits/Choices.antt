@@ -1,6 +1,5 @@
-use Prim.Native.Nat.{_+_, _≤_}
+use Prim.Native.Nat.{_+_}
 use mathlib.Core.List.{map}
-use lib.ListN.{length}
 use Rattle.std.specs.Iters.{counting}
 use Rattle.netlist.specs.Signals.{bit}
 use Rattle.text.specs.Reports.{Written}

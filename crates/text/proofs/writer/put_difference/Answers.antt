@@ -11,4 +11,4 @@ returns g c =
     written-as _ _ (c .args .at) (c .args .out .now) (c .put .last .out) (c .put .result)
     (difference-is (g .G·Algebra .ops .letter) (c .args .width) (c .args .d) (c .letter-grade .result) (c .letter-left .result) (c .letter-right .result) (c .letter-grade .ensures) (c .letter-left .ensures) (c .letter-right .ensures))
     (written-more _ (c .args .at) _ _ _ (c .put-lettered .ensures) _ _ _
-     (written-more _ _ _ _ _ (c .put-bits-ended .ensures) _ _ _ (c .put .ensures)))
+    (written-more _ _ _ _ _ (c .put-bits-ended .ensures) _ _ _ (c .put .ensures)))

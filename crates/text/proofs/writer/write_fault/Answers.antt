@@ -1,7 +1,5 @@
-use Prim.Native.Nat.{_<_, _+_}
-use mathlib.Core.Path.{_≡_, refl}
+use mathlib.Core.Path.{refl}
 use native.Mathlib.Omega.{arith}
-use lib.ListN.{length}
 use Rattle.std.proofs.shelf.Ways.{not-from-decides}
 use Rattle.text.proofs.Writing.{written-more, written-as}
 use Rattle.text.proofs.Found.{fault-size, fault-is}
@@ -18,6 +16,6 @@ returns c =
     written-as _ _ (c .args .at) (c .args .out .now) (c .put .last .out) (c .put .result)
     (fault-is (c .number-bytes .result) (c .operand-bytes .result) (c .operand-bytes-2 .result) (c .args .number) (c .args .netlist) (c .args .line) (c .number-bytes .ensures) (c .operand-bytes .ensures) (c .operand-bytes-2 .ensures))
     (written-more _ (c .args .at) _ _ _ (c .put-spaced .ensures) _ _ _
-     (written-more _ _ _ _ _ (c .put-worded .ensures) _ _ _
-      (written-more _ _ _ _ _ (c .put-first .ensures) _ _ _
-       (written-more _ _ _ _ _ (c .put-ended .ensures) _ _ _ (c .put .ensures)))))
+    (written-more _ _ _ _ _ (c .put-worded .ensures) _ _ _
+    (written-more _ _ _ _ _ (c .put-first .ensures) _ _ _
+    (written-more _ _ _ _ _ (c .put-ended .ensures) _ _ _ (c .put .ensures)))))

@@ -15,7 +15,7 @@ pub returns-then-not-rows-fit : need.returns-then-not-rows-fit
 returns-then-not-rows-fit g c =
     let n = not-from-decides (c .rows-fit .result) (c .rows-fit .ensures) (c .if-not-rows-fit .taken) in
     let s = findings-sized (g .G·Algebra .ops .letter) (c .args .width) 0 (c .args .findings .now) in
-    record { long = omega arith; kept = refl }
+    record { long = omega arith; kept = refl {a = c .args .out .now} }
 
 pub loop-number-holds : need.loop-number-holds
 loop-number-holds g c =

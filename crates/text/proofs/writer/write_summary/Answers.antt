@@ -1,7 +1,5 @@
-use Prim.Native.Nat.{_<_, _+_}
-use mathlib.Core.Path.{_≡_, refl}
+use mathlib.Core.Path.{refl}
 use native.Mathlib.Omega.{arith}
-use lib.ListN.{length}
 use Rattle.std.proofs.shelf.Ways.{not-from-decides}
 use Rattle.text.proofs.Writing.{written-more, written-as}
 use Rattle.text.proofs.Found.{summary-size, summary-is}
@@ -18,6 +16,6 @@ returns c =
     written-as _ _ (c .args .at) (c .args .out .now) (c .put .last .out) (c .put .result)
     (summary-is (c .number-bytes .result) (c .word .result) (c .operand-bytes .result) (c .args .pairs) (c .args .word) (c .args .number) (c .number-bytes .ensures) (c .word .ensures) (c .operand-bytes .ensures))
     (written-more _ (c .args .at) _ _ _ (c .put-spaced .ensures) _ _ _
-     (written-more _ _ _ _ _ (c .put-worded .ensures) _ _ _
-      (written-more _ _ _ _ _ (c .put-counted .ensures) _ _ _
-       (written-more _ _ _ _ _ (c .put-ended .ensures) _ _ _ (c .put .ensures)))))
+    (written-more _ _ _ _ _ (c .put-worded .ensures) _ _ _
+    (written-more _ _ _ _ _ (c .put-counted .ensures) _ _ _
+    (written-more _ _ _ _ _ (c .put-ended .ensures) _ _ _ (c .put .ensures)))))
