@@ -24,3 +24,5 @@ pub mod Shapes
 pub mod Epochs
 pub mod Books
 pub mod Stepping
+pub mod Grades
+pub mod Events

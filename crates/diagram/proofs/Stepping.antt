@@ -59,7 +59,7 @@ same-places {o} {n} {s} {t} {b} w grows used sound pairs holds = record {
   parts = λ p u. parts-grow o n w grows (book-signals b) (holds .parts) p (omega arith);
 }
 
-no-pairs-true : (o : Ops) (s : Store) (Q : Pairs) → No-pairs Q → True-pairs o s Q
+pub no-pairs-true : (o : Ops) (s : Store) (Q : Pairs) → No-pairs Q → True-pairs o s Q
 no-pairs-true o s Q none k x y h e = absurd (let z : _≡_ {A = ℕ} 0 1 = (let g = none k x y in cc) in omega arith)
 
 cut-back-holds : {o : Ops} {n : ℕ} {s t : Store} {b : Book} {P Q : Pairs} → Well s → Back s (s .used) t → No-pairs Q → Holds o n b s P → Holds o n b t Q
