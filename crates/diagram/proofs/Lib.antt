@@ -26,3 +26,4 @@ pub mod Books
 pub mod Stepping
 pub mod Grades
 pub mod Events
+pub mod Laying
