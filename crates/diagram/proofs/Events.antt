@@ -54,7 +54,7 @@ pub record Leaves (o : Ops) (n room : ℕ) (b : Book) (e : Event) (t : Store) (Q
   pub walked : Walked o n room b (steps o n b e) t Q
   pub findings : True-findings o n b e
 
-facts-after : {o : Ops} → Laws o → {t : Store} → Well t → (room : ℕ) (run : Run) (e : Event) (Q : Pairs) → Leaves o (t .inputs) room (book o (t .inputs) run) e t Q → All-true o (t .inputs) room run → Facts o (t .inputs) room (e ∷ run) t Q
+pub facts-after : {o : Ops} → Laws o → {t : Store} → Well t → (room : ℕ) (run : Run) (e : Event) (Q : Pairs) → Leaves o (t .inputs) room (book o (t .inputs) run) e t Q → All-true o (t .inputs) room run → Facts o (t .inputs) room (e ∷ run) t Q
 unfolding book All-true
 facts-after laws w room run e Q leaves before = record {
   holds = leaves .walked .holds;

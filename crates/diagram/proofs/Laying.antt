@@ -110,13 +110,13 @@ module _ (o : Ops) (n : ℕ) where
 -- ---- handles with signals
 
 -- each handle is lawful and has the signal beside it
-pub Signalled : Ops → ℕ → Store → List ℕ → List Signal → Type 0
+unfoldable pub Signalled : Ops → ℕ → Store → List ℕ → List Signal → Type 0
 Signalled o n s [] ss = Unit {0}
 Signalled o n s (h ∷ hs) [] = ⊥
 Signalled o n s (h ∷ hs) (x ∷ ss) = Stands o n s (record { number = h; signal = x }) × Signalled o n s hs ss
 
 module _ (o : Ops) (n : ℕ) (s : Store) where
-  told-signalled : (ss : List Signal) (hs : List ℕ) (b : Book) → length hs ≤ length ss → All (Stands o n s) (all-booked (zipped step ss (map told hs)) b) → Signalled o n s hs ss
+  pub told-signalled : (ss : List Signal) (hs : List ℕ) (b : Book) → length hs ≤ length ss → All (Stands o n s) (all-booked (zipped step ss (map told hs)) b) → Signalled o n s hs ss
   unfolding Signalled zipped all-booked
   told-signalled ss [] b h all = tt
   told-signalled [] (x ∷ hs) b h all = absurd (omega arith)
@@ -124,7 +124,7 @@ module _ (o : Ops) (n : ℕ) (s : Store) where
       let e : Entry = record { number = x; signal = r } in
       (before-steps (Stands o n s) (zipped step ss (map told hs)) (e ∷ b) all .0, told-signalled ss hs (e ∷ b) (omega arith) all)
 
-  signalled-here : (hs : List ℕ) (ss : List Signal) → Signalled o n s hs ss → (k : ℕ) → k < length hs → Stands o n s (record { number = getD hs k 0; signal = signal-at ss k })
+  pub signalled-here : (hs : List ℕ) (ss : List Signal) → Signalled o n s hs ss → (k : ℕ) → k < length hs → Stands o n s (record { number = getD hs k 0; signal = signal-at ss k })
   unfolding Signalled
   signalled-here [] ss same k h = absurd (omega arith)
   signalled-here (x ∷ hs) [] same k h = absurd same

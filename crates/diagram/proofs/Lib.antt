@@ -27,3 +27,4 @@ pub mod Stepping
 pub mod Grades
 pub mod Events
 pub mod Laying
+pub mod Comparing

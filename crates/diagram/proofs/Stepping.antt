@@ -176,11 +176,11 @@ pub walked-one : {o : Ops} {n room : ℕ} {b : Book} {r : Step} {t : Store} {Q :
 unfolding all-booked All-judged
 walked-one after = record { holds = after .holds; judged = (after .judged, tt) }
 
-pub walked-append : {o : Ops} {n room : ℕ} {b : Book} (xs ys : List Step) {s t : Store} {P Q : Pairs} → Walked o n room b xs s P → Walked o n room (all-booked xs b) ys t Q → Walked o n room b (xs ++ ys) t Q
-walked-append {o} {n} {room} {b} xs ys {s} {t} {P} {Q} before after = record {
+pub walked-append : {o : Ops} {n room : ℕ} {b : Book} (xs ys : List Step) {t : Store} {Q : Pairs} → All-judged o n room b xs → Walked o n room (all-booked xs b) ys t Q → Walked o n room b (xs ++ ys) t Q
+walked-append {o} {n} {room} {b} xs ys {t} {Q} before after = record {
   holds = subst (λ k. Holds o n k t Q) (sym (booked-append xs ys b)) (after .holds);
-  judged = judged-append o n room b xs ys (before .judged) (after .judged);
+  judged = judged-append o n room b xs ys before (after .judged);
 }
 
 pub walked-more : {o : Ops} {n room : ℕ} {b : Book} (xs : List Step) (r : Step) {s t : Store} {P Q : Pairs} → Walked o n room b xs s P → Stepped o n room (all-booked xs b) r t Q → Walked o n room b (xs ++ r ∷ []) t Q
-walked-more xs r before after = walked-append xs (r ∷ []) before (walked-one after)
+walked-more xs r before after = walked-append xs (r ∷ []) (before .judged) (walked-one after)
