@@ -22,3 +22,9 @@ pub mod Links
 pub mod Held
 pub mod Shapes
 pub mod Epochs
+pub mod Books
+pub mod Stepping
+pub mod Grades
+pub mod Events
+pub mod Laying
+pub mod Comparing

@@ -185,15 +185,23 @@ module _ (o : Ops) (n : ℕ) where
     pub exact-places : used ≡ part-count o n (book-signals (book run))
     pub all-true : All-true room run
 
--- What holds of a run, of the table and of the memo after it: what is found, and what the calls rest on.
-pub record Facts (o : Ops) (room : ℕ) (run : Run) (s : Store) (P : Pairs) : Type 0 where
+-- A booked handle is lawful and has its booked signal.
+pub record Stands (o : Ops) (n : ℕ) (s : Store) (e : Entry) : Type 0 where
+  pub lawful : Lawful o s (e .number)
+  pub means : Agree n (value o s (e .number)) (e .signal)
+
+-- What the calls rest on: the table is sound, the memo's pairs are true, the booked handles stand in the table, and every
+-- place in use is a part of a booked signal.
+pub record Holds (o : Ops) (n : ℕ) (b : Book) (s : Store) (P : Pairs) : Type 0 where
   pub sound : Sound o s
   pub pairs : True-pairs o s P
-  -- every booked handle is lawful and has its booked signal
-  pub handles : All (λ e. Lawful o s (e .number) × Agree (s .inputs) (value o s (e .number)) (e .signal)) (book o (s .inputs) run)
-  -- every place in use is a part of a booked signal
-  pub parts : (p : ℕ) → p < s .used → Part-in o (s .inputs) (book-signals (book o (s .inputs) run)) (value o s (handle p))
-  pub found : Found o (s .inputs) room (s .used) run
+  pub handles : All (Stands o n s) b
+  pub parts : (p : ℕ) → p < s .used → Part-in o n (book-signals b) (value o s (handle p))
+
+-- What holds of a run, of the table and of the memo after it.
+pub record Facts (o : Ops) (n room : ℕ) (run : Run) (s : Store) (P : Pairs) : Type 0 where
+  pub holds : Holds o n (book o n run) s P
+  pub found : Found o n room (s .used) run
 
 abbrev pub Kept : Ops → ℕ → Run → Store → Pairs → Type 0
-Kept o room run s P = Provided o (s .inputs) run → Facts o room run s P
+Kept o room run s P = Provided o (s .inputs) run → Facts o (s .inputs) room run s P
