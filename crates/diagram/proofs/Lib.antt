@@ -22,3 +22,5 @@ pub mod Links
 pub mod Held
 pub mod Shapes
 pub mod Epochs
+pub mod MaskLoops
+pub mod Lookups
