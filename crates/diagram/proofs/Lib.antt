@@ -24,3 +24,4 @@ pub mod Shapes
 pub mod Epochs
 pub mod MaskLoops
 pub mod Lookups
+pub mod Finds

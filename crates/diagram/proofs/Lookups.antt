@@ -1,6 +1,6 @@
 -- What the steps of the reading calls read, against the values of handles. Assumes nothing.
 use mathlib.Core.Path.{_≡_, refl, sym, ap, subst, _∙_}
-use mathlib.Core.Bool.{true, false, cond}
+use mathlib.Core.Bool.{Bool, true, false, cond}
 use mathlib.Core.Logic.{⊎-elim}
 use Prim.Native.Nat.{ℕ, zero, suc, _+_, _*_, _%_, _^_, _<_, _≤_}
 use native.Mathlib.Omega.{arith}
@@ -9,15 +9,18 @@ use lib.Dec.{eqb}
 use Rattle.std.proofs.shelf.Bits.{one-shl}
 use Rattle.std.proofs.shelf.Tests.{cond-true, cond-false, eq-eqb, ne-eqb}
 use Rattle.std.specs.Orderings.{Decides}
+use Rattle.std.specs.declared.option.Option.{Option}
 use Rattle.algebra.specs.Ops.{Ops}
 use Rattle.algebra.specs.Laws.{Laws}
 use Rattle.netlist.specs.Signals.{bit}
+use Rattle.diagram.specs.declared.fault.TableFault.{TableFault}
 use Rattle.diagram.specs.declared.record.Record.{Record}
-use Rattle.diagram.specs.Stores.{Store, place, marked, side, side-on, under-mark, value, up}
+use Rattle.diagram.specs.Faults.{test}
+use Rattle.diagram.specs.Stores.{Store, place, side, side-on, up}
 use Rattle.diagram.specs.Rules.{Well, Sound, Lawful, Occurs}
 use Rattle.diagram.specs.Changes.{Within}
 use Rattle.diagram.specs.Marks.{turn-below, reach-of}
-use Rattle.diagram.proofs.Values.{side-before, value-place, under-marked, under-unmarked}
+use Rattle.diagram.proofs.Values.{side-before}
 use Rattle.diagram.proofs.Reaches.{reach-right}
 use Rattle.diagram.proofs.Shapes.{place-below}
 
@@ -45,14 +48,6 @@ side-on-before {s} w h p g u =
 pub side-on-within : {s : Store} (w : Well s) (h p : ℕ) → 16 ≤ h → Within s h → Within s (side-on s h p)
 side-on-within w h p g u = omega (arith, side-on-before w h p g u)
 
--- and the value there, under the mark, is the value here
-module _ (o : Ops) {s : Store} (w : Well s) (h p x : ℕ) (large : 16 ≤ h) (within : Within s h) (below : x ≡ value o s (side-on s h p) p) where
-  pub value-turned : marked h ≡ true → o .turn x ≡ value o s h p
-  value-turned m = ap (o .turn) below ∙ sym (value-place o w h p large within ∙ under-marked o h _ m)
-
-  pub value-kept : marked h ≡ false → x ≡ value o s h p
-  value-kept m = below ∙ sym (value-place o w h p large within ∙ under-unmarked o h _ m)
-
 -- one value more of a mask's NOT
 pub turned-none : (o : Ops) (m : ℕ) → 0 ≡ turn-below o m 0
 unfolding turn-below
@@ -77,3 +72,7 @@ pub reach-decides : {o : Ops} → Laws o → {s : Store} (w : Well s) → Sound 
 reach-decides {o} laws {s} w sound h m v l e =
     let x = reach-right laws w sound h l in
     (λ b. x .reached v (ap (λ k. up k v) (sym e) ∙ b), λ at. ap (λ k. up k v) e ∙ ap (up (reach-of o s h)) (sym (at .2)) ∙ x .reaches (at .0) (at .1))
+
+-- a test that passes leaves the later ones
+pub passed : (b : Bool) (f : TableFault) (later : Option TableFault) → b ≡ true → test b f later ≡ later
+passed b f later e = rw e

@@ -64,3 +64,8 @@ support-refusal o s rows h = test (ltb (s .inputs) rows) FewRows (test (lawful o
 abbrev pub unless-refused : {X : Type 0} → Option TableFault → X → Result X TableFault
 unless-refused None x = Ok x
 unless-refused (Some f) x = Err f
+
+-- the refusal that was answered, if one was
+abbrev pub refusal-of : {X : Type 0} → Result X TableFault → Option TableFault
+refusal-of (Ok x) = None
+refusal-of (Err f) = Some f

@@ -6,8 +6,8 @@ ghost use Prim.Native.Nat.{ℕ, _≤_};
 ghost use Rattle.diagram.specs.Changes.{Within};
 ghost use Rattle.diagram.specs.Faults.{value-refusal, reach-refusal, unless-refused};
 ghost use Rattle.diagram.specs.Marks.{reach-of};
-ghost use Rattle.diagram.specs.Rules.{Sound, Occurs, lawful};
-ghost use Rattle.diagram.specs.Stores.{side-on, value, up};
+ghost use Rattle.diagram.specs.Rules.{Placed, Sound, Occurs, lawful};
+ghost use Rattle.diagram.specs.Stores.{place, side-on, under-mark, value, up};
 ghost use Rattle.diagram.specs.Views.{view};
 use crate::fault::TableFault;
 use crate::handle::is_constant;
@@ -15,9 +15,20 @@ use crate::handle::is_marked;
 use crate::handle::place_of;
 use crate::lawful::may_mark;
 use crate::lawful::turned_mask;
+use crate::record::Record;
 use crate::table::Table;
 use algebra::Algebra;
 use netlist::Pattern;
+
+mod find;
+
+// The NOT of a value where the handle is marked.
+fn under_mark<G: Algebra>(algebra: &G, h: u32, code: u8) -> u8
+    requires { ⌜ 16 ≤ h ⌝ }
+    ensures { λ r. ⌜ r ≡ under-mark ops h code ⌝ }
+{
+    if is_marked(h) { algebra.turn(code) } else { code }
+}
 
 impl Table {
     // Whether `h` is a constant of the algebra, or a place in use that is marked only where it may be.
@@ -34,6 +45,16 @@ impl Table {
         !is_marked(h) || may_mark(algebra, self.record_at(p).reach)
     }
 
+    // The record of a handle that is no constant.
+    fn record_of(&self, h: u32) -> Record
+        requires large { ⌜ 16 ≤ h ⌝ }
+        requires within { ⌜ Within (view (now self)) h ⌝ }
+        ensures read { λ r. ⌜ r ≡ view (now (self .entry)) .at (place h) ⌝ }
+        ensures placed { λ r. ⌜ Placed (view (now (self .entry))) (place h) r ⌝ }
+    {
+        self.record_at(place_of(h))
+    }
+
     // The side of a place that the bit of its input chooses.
     fn side_on(&self, h: u32, pattern: Pattern) -> u32
         requires large { ⌜ 16 ≤ h ⌝ }
@@ -41,7 +62,7 @@ impl Table {
         requires wide { ⌜ pattern .width ≡ view (now self) .inputs ⌝ }
         ensures { λ r. ⌜ r ≡ side-on (view (now (self .entry))) h (pattern .number) ⌝ }
     {
-        let record = self.record_at(place_of(h));
+        let record = self.record_of(h);
         if pattern.bit(record.input) == 1 { record.high } else { record.low }
     }
 
@@ -55,7 +76,7 @@ impl Table {
             return h as u8;
         }
         let below = self.value_in_use(algebra, self.side_on(h, pattern), pattern);
-        if is_marked(h) { algebra.turn(below) } else { below }
+        under_mark(algebra, h, below)
     }
 
     // The value of a handle on a pattern.

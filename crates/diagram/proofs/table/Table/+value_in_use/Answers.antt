@@ -3,11 +3,11 @@ use Prim.Native.Nat.{_<_, _≤_}
 use native.Mathlib.Omega.{arith}
 use borrow.Author.Needs.{needs}
 use Rattle.std.proofs.shelf.Tests.{ltb-true, ltb-false}
-use Rattle.diagram.specs.Stores.{value}
+use Rattle.diagram.specs.Stores.{value, under-mark}
 use Rattle.diagram.specs.Views.{view}
 use Rattle.diagram.proofs.Shapes.{well}
-use Rattle.diagram.proofs.Values.{value-constant}
-use Rattle.diagram.proofs.Lookups.{side-on-before, side-on-within, value-turned, value-kept}
+use Rattle.diagram.proofs.Values.{value-constant, value-place}
+use Rattle.diagram.proofs.Lookups.{side-on-before, side-on-within}
 use Rattle.diagram.proofs.table.Table.+value_in_use.Needs as need
 
 pub returns-then-is-constant : need.returns-then-is-constant
@@ -25,20 +25,13 @@ value-in-use-below-requires g t c κs within =
     let e = c .side-on .ensures in
     (search needs, (within, (omega arith, c .pre .wide)))
 
-pub returns-then-is-marked : need.returns-then-is-marked
-returns-then-is-marked g t c =
+pub returns : need.returns
+returns g t c =
     let s = view (c .args .self .now) in
     let o = g .G·Algebra .ops in
     let h = c .args .h in
     let p = c .args .pattern .number in
     let large = ltb-false h 16 (sym (c .is-constant .ensures) ∙ c .if-is-constant .left) in
-    c .turn .ensures ∙ value-turned o (well (c .args .self .now .well)) h p _ large (c .pre .within) (c .value-in-use-below .ensures ∙ ap (λ k. value o s k p) (c .side-on .ensures)) (sym (c .is-marked .ensures) ∙ c .if-is-marked .taken)
-
-pub returns-else-is-marked : need.returns-else-is-marked
-returns-else-is-marked g t c =
-    let s = view (c .args .self .now) in
-    let o = g .G·Algebra .ops in
-    let h = c .args .h in
-    let p = c .args .pattern .number in
-    let large = ltb-false h 16 (sym (c .is-constant .ensures) ∙ c .if-is-constant .left) in
-    value-kept o (well (c .args .self .now .well)) h p _ large (c .pre .within) (c .value-in-use-below .ensures ∙ ap (λ k. value o s k p) (c .side-on .ensures)) (sym (c .is-marked .ensures) ∙ c .if-is-marked .left)
+    c .under-mark .ensures
+    ∙ ap (under-mark o h) (c .value-in-use-below .ensures ∙ ap (λ k. value o s k p) (c .side-on .ensures))
+    ∙ sym (value-place o (well (c .args .self .now .well)) h p large (c .pre .within))
