@@ -38,6 +38,10 @@ level s h = cond (ltb h 16) (s .inputs) (s .at (place h) .input)
 abbrev pub side : Record → ℕ → ℕ
 side r b = cond (eqb b 1) (r .high) (r .low)
 
+-- the side of a place that the bit of its input in the pattern p chooses
+abbrev pub side-on : Store → ℕ → ℕ → ℕ
+side-on s h p = side (s .at (place h)) (bit (s .inputs) p (s .at (place h) .input))
+
 -- NOT where the handle is marked
 abbrev pub under-mark : Ops → ℕ → ℕ → ℕ
 under-mark o h v = cond (marked h) (o .turn v) v
@@ -47,7 +51,7 @@ unfoldable pub descend : Ops → Store → ℕ → ℕ → ℕ → ℕ
 descend o s p zero h = 0
 descend o s p (suc m) h =
     cond (ltb h 16) h
-    (under-mark o h (descend o s p m (side (s .at (place h)) (bit (s .inputs) p (s .at (place h) .input)))))
+    (under-mark o h (descend o s p m (side-on s h p)))
 
 -- the value of a handle on a pattern: a constant is itself, a place takes the side of its input's bit, and a mark turns
 -- the result. Input numbers rise on the way down, so that many steps are enough.

@@ -2,8 +2,10 @@
 mod fault;
 mod handle;
 mod hash;
+mod lawful;
 mod memo;
 mod places;
+mod readings;
 mod record;
 mod rows;
 mod table;
