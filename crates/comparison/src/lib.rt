@@ -1,0 +1,2 @@
+// Comparing netlists on a table of diagrams.
+mod grading;
