@@ -22,3 +22,4 @@ pub mod Links
 pub mod Held
 pub mod Shapes
 pub mod Epochs
+pub mod Passes

@@ -3,6 +3,7 @@ pub mod Rules
 pub mod Counts
 pub mod Changes
 pub mod Marks
+pub mod Codes
 pub mod Canonical
 pub mod Buckets
 pub mod Keys

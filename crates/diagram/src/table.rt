@@ -5,6 +5,7 @@ use crate::places::Places;
 
 mod changes;
 mod counts;
+mod marks;
 mod reads;
 
 // A table of records over some number of inputs. Its shape needs no algebra: sides differ and lie deeper and before
