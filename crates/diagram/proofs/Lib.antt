@@ -23,3 +23,4 @@ pub mod Held
 pub mod Shapes
 pub mod Epochs
 pub mod Passes
+pub mod Chooses

@@ -84,7 +84,7 @@ pub well-made : {o : Ops} → Laws o → {s t : Store} (w : Well s) {i low high 
     → Added s t (kept o s i low high) → Well t
 well-made laws w sides absent d = well-added w (kept-sides laws sides) absent d
 
-made-place : (o : Ops) (s : Store) (low high p : ℕ) → (16 ≤ made-handle o s low high p) × (made-handle o s low high p ≤ handle p + 1) × (place (made-handle o s low high p) ≡ p)
+pub made-place : (o : Ops) (s : Store) (low high p : ℕ) → (16 ≤ made-handle o s low high p) × (made-handle o s low high p ≤ handle p + 1) × (place (made-handle o s low high p) ≡ p)
 made-place o s low high p =
     cond-both (turns o s low high) (handle p + 1) (handle p) (λ h. (16 ≤ h) × (h ≤ handle p + 1) × (place h ≡ p))
     (λ _. (omega arith, omega arith, place-marked p)) (λ _. (omega arith, omega arith, place-handle p))

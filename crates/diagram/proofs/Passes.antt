@@ -17,9 +17,10 @@ use Rattle.algebra.specs.Ops.{Ops}
 use Rattle.netlist.specs.Signals.{bit}
 use Rattle.netlist.specs.Parts.{all-below}
 use Rattle.diagram.specs.declared.codes.Codes.{Codes}
-use Rattle.diagram.specs.Stores.{up}
+use Rattle.diagram.specs.declared.record.Record.{Record}
+use Rattle.diagram.specs.Stores.{Store, place, up}
 use Rattle.diagram.specs.Rules.{settled-code, firm-code, settled-mask, firm-mask, may-mark}
-use Rattle.diagram.specs.Marks.{turn-below}
+use Rattle.diagram.specs.Marks.{negate, turn-below, turn-mask, reach-of, union, leads-plain, lead, turns, kept}
 use Rattle.diagram.specs.Codes.{mask-below, loose-codes, firm-codes, codes-of}
 use Rattle.diagram.proofs.Bits.{same-bits}
 use Rattle.diagram.proofs.Masks.{all-at, all-from}
@@ -173,3 +174,36 @@ turn-more o m v u rest r e t d =
     ∙ ap (λ x. cond (up m v) (bitOr x (2 ^ u)) x) e
     ∙ ap (λ z. cond (up m v) (bitOr (turn-below o m v) (2 ^ z)) (turn-below o m v)) t
     ∙ ap (turn-below o m) (sym (add-one v))
+
+-- the test of a record that was read
+pub told-may-mark : (o : Ops) (k : Codes) (s : Store) (h p : ℕ) (r : Record) (b : Bool) → k ≡ codes-of o → p ≡ place h → r ≡ s .at p
+    → b ≡ (eqb (bitAnd (r .reach) (k .loose)) 0 && not (eqb (bitAnd (r .reach) (k .firm)) 0)) → b ≡ may-mark o (s .at (place h) .reach)
+told-may-mark o k s h p r b e at read d = d ∙ may-mark-test o k (r .reach) e ∙ ap (λ z. may-mark o (z .reach)) (read ∙ ap (s .at) at)
+
+-- whether a record is kept under NOT, told by masks
+pub told-turns : (o : Ops) (k : Codes) (s : Store) (low high a b m side : ℕ) (t : Bool) → k ≡ codes-of o → a ≡ reach-of o s low → b ≡ reach-of o s high → m ≡ bitOr a b
+    → side ≡ cond (not (eqb (bitAnd a (k .firm)) 0)) low high
+    → t ≡ ((eqb (bitAnd m (k .loose)) 0 && not (eqb (bitAnd m (k .firm)) 0)) && not (leads-plain o side)) → t ≡ turns o s low high
+told-turns o k s low high a b m side t e ea eb em es et =
+    let mask : m ≡ union o s low high = em ∙ ap (λ z. bitOr z b) ea ∙ ap (bitOr (reach-of o s low)) eb in
+    let first : side ≡ lead o s low high = es ∙ ap (λ z. cond z low high) (firm-test o k a e ∙ ap (firm-mask o) ea) in
+    et
+    ∙ ap (λ z. z && not (leads-plain o side)) (may-mark-test o k m e ∙ ap (may-mark o) mask)
+    ∙ ap (λ z. may-mark o (union o s low high) && not (leads-plain o z)) first
+
+-- the record that is kept, in each case
+pub kept-plain : (o : Ops) (s : Store) (i low high a b m : ℕ) → turns o s low high ≡ false → a ≡ reach-of o s low → b ≡ reach-of o s high → m ≡ bitOr a b
+    → _≡_ {A = Record} (record { input = i; low = low; high = high; reach = m }) (kept o s i low high)
+kept-plain o s i low high a b m e ea eb em =
+    let mask : m ≡ union o s low high = em ∙ ap (λ z. bitOr z b) ea ∙ ap (bitOr (reach-of o s low)) eb in
+    let f : Bool → Record = λ t. record { input = i; low = cond t (negate o s low) low; high = cond t (negate o s high) high; reach = cond t (turn-mask o (union o s low high)) (union o s low high) } in
+    ap (λ z. record { input = i; low = low; high = high; reach = z }) mask ∙ ap f (sym e)
+
+pub kept-turned : (o : Ops) (s : Store) (i low high a b m x y z : ℕ) → turns o s low high ≡ true → a ≡ reach-of o s low → b ≡ reach-of o s high → m ≡ bitOr a b
+    → x ≡ negate o s low → y ≡ negate o s high → z ≡ turn-mask o m
+    → _≡_ {A = Record} (record { input = i; low = x; high = y; reach = z }) (kept o s i low high)
+kept-turned o s i low high a b m x y z e ea eb em ex ey ez =
+    let mask : m ≡ union o s low high = em ∙ ap (λ z. bitOr z b) ea ∙ ap (bitOr (reach-of o s low)) eb in
+    let f : Bool → Record = λ t. record { input = i; low = cond t (negate o s low) low; high = cond t (negate o s high) high; reach = cond t (turn-mask o (union o s low high)) (union o s low high) } in
+    let first : _≡_ {A = Record} (record { input = i; low = x; high = y; reach = z }) (f true) = ap (λ u. record { input = i; low = u; high = y; reach = z }) ex ∙ ap (λ u. record { input = i; low = negate o s low; high = u; reach = z }) ey ∙ ap (λ u. record { input = i; low = negate o s low; high = negate o s high; reach = u }) (ez ∙ ap (turn-mask o) mask) in
+    first ∙ ap f (sym e)

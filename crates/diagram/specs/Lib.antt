@@ -4,6 +4,7 @@ pub mod Counts
 pub mod Changes
 pub mod Marks
 pub mod Codes
+pub mod Makings
 pub mod Canonical
 pub mod Buckets
 pub mod Keys

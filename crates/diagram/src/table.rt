@@ -5,6 +5,7 @@ use crate::places::Places;
 
 mod changes;
 mod counts;
+mod making;
 mod marks;
 mod reads;
 
