@@ -24,3 +24,5 @@ pub mod Shapes
 pub mod Epochs
 pub mod Passes
 pub mod Chooses
+pub mod Halves
+pub mod Walking

@@ -6,15 +6,18 @@ mod hash;
 mod memo;
 mod places;
 mod record;
+mod row;
 mod rows;
 mod table;
 mod theorems;
+mod walk;
 
 pub use fault::TableFault;
 pub use memo::Memo;
 pub use memo::NoMemo;
 pub use memo::NoPairs;
 pub use record::Record;
+pub use row::Row;
 pub use rows::RowMemo;
 pub use rows::RowPairs;
 pub use table::Table;
