@@ -26,3 +26,4 @@ pub mod Passes
 pub mod Chooses
 pub mod Halves
 pub mod Walking
+pub mod Descents

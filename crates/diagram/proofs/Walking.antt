@@ -8,9 +8,12 @@ use native.Mathlib.Omega.{arith}
 use lib.Dec.{eqb}
 use lib.ListN.{length}
 use lib.Pow.{pow-pos, pow-add}
-use Rattle.std.proofs.shelf.Tests.{cases-lt, cases-bool, cases-eq, cond-true, cond-false, cond-both, eq-eqb, ne-eqb}
+use Rattle.std.proofs.shelf.Tests.{cases-lt, cases-bool, cases-eq, cond-true, cond-false, cond-both, eq-eqb, ne-eqb, false≢true}
 use Rattle.std.specs.declared.option.Option.{Option}
 use Rattle.std.specs.declared.option.Option.the-variants.{Some, None}
+use Rattle.std.specs.declared.result.Result.{Result}
+use Rattle.std.specs.declared.result.Result.the-variants.{Ok, Err}
+use Rattle.std.specs.Results.{isErr}
 use Rattle.algebra.specs.Ops.{Ops}
 use Rattle.algebra.specs.Laws.{Laws}
 use Rattle.netlist.specs.Signals.{Signal, Agree, bit}
@@ -23,7 +26,8 @@ use Rattle.diagram.specs.Makings.{Chosen, Crowded}
 use Rattle.diagram.specs.Memos.{Pairs, Puts}
 use Rattle.diagram.specs.Counts.{One-part, Part-of, Part-in, nth}
 use Rattle.diagram.specs.Outcomes.{True-pair, True-pairs, Result-of}
-use Rattle.diagram.specs.Walks.{combine, combined, Ran-out}
+use Rattle.diagram.specs.declared.fault.Full.{Full}
+use Rattle.diagram.specs.Walks.{combine, combined, Ran-out, Walk-shape, Walk-means}
 use Rattle.diagram.proofs.Bits.{fixed}
 use Rattle.diagram.proofs.Alike.{agree-refl, agree-sym}
 use Rattle.diagram.proofs.Pieces.{part-trans, part-of-itself, part-of-agree}
@@ -294,3 +298,13 @@ module _ {o : Ops} (laws : Laws o) {s : Store} (w : Well s) (k x y i x0 x1 y0 y1
                 (part-in-itself o (v .inputs) (value o v h) r (inl means)))
                 (cases-lt p (u .used));
           }
+
+-- ---- what a `?` hands on
+
+pub told-out : {o : Ops} {room : ℕ} {s t : Store} {result : Signal} (Q : Pairs) (r : Result ℕ Full) → isErr r ≡ true → Ran-out o room s t result → Walk-means o room s t Q result r
+told-out Q (Ok h) e x = absurd (false≢true e)
+told-out Q (Err f) e x = x
+
+pub shape-out : (s t : Store) (x y : ℕ) (r : Result ℕ Full) → isErr r ≡ true → Walk-shape s t x y r
+shape-out s t x y (Ok h) e = absurd (false≢true e)
+shape-out s t x y (Err f) e = tt

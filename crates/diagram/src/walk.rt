@@ -45,6 +45,9 @@ pub(crate) fn walk<G: Algebra, M: Memo>(table: &mut Table, algebra: &G, codes: C
     if is_constant(x) && is_constant(y) {
         return Ok(leaf(algebra, op, x as u8, y as u8) as u32);
     }
+    if op == TURN && codes.settled(table.reach_of(algebra, x)) {
+        return Ok(table.negate(algebra, codes, x));
+    }
     let (own, rest) = rows.split_at_mut(1);
     let own = &mut own[0];
     *own = table.cut(algebra, codes, x, y);
