@@ -27,3 +27,4 @@ pub mod Chooses
 pub mod Halves
 pub mod Walking
 pub mod Descents
+pub mod Fulls
