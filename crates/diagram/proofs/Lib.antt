@@ -31,3 +31,9 @@ pub mod Comparing
 pub mod MaskLoops
 pub mod Lookups
 pub mod Finds
+pub mod Passes
+pub mod Chooses
+pub mod Halves
+pub mod Walking
+pub mod Descents
+pub mod Fulls

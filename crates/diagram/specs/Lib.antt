@@ -3,6 +3,8 @@ pub mod Rules
 pub mod Counts
 pub mod Changes
 pub mod Marks
+pub mod Codes
+pub mod Makings
 pub mod Canonical
 pub mod Buckets
 pub mod Keys
@@ -16,3 +18,4 @@ pub mod Recalls
 pub mod Faults
 pub mod Outcomes
 pub mod Runs
+pub mod Walks

@@ -1,4 +1,6 @@
 // Shared decision diagrams of signals: records with NOT marks, one handle for one signal.
+mod calls;
+mod codes;
 mod fault;
 mod handle;
 mod hash;
@@ -7,15 +9,18 @@ mod memo;
 mod places;
 mod readings;
 mod record;
+mod row;
 mod rows;
 mod table;
 mod theorems;
+mod walk;
 
 pub use fault::TableFault;
 pub use memo::Memo;
 pub use memo::NoMemo;
 pub use memo::NoPairs;
 pub use record::Record;
+pub use row::Row;
 pub use rows::RowMemo;
 pub use rows::RowPairs;
 pub use table::Table;
