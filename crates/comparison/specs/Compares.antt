@@ -99,3 +99,57 @@ Parts-compared o s t ls ms hs hs′ ks ks′ cs cs′ (Err (First e)) = Line-ref
 Parts-compared o s t ls ms hs hs′ ks ks′ cs cs′ (Err (Second e)) = (first-fault o (s .inputs) 0 ls ≡ None) × Line-refused o s t ms ks ks′ e × (cs′ ≡ cs)
 Parts-compared o s t ls ms hs hs′ ks ks′ cs cs′ (Err (Pair e)) =
     (first-fault o (s .inputs) 0 ls ≡ None) × (first-fault o (s .inputs) 0 ms ≡ None) × Pairs-checked s t cs cs′ (Err e)
+
+-- the counts let two netlists be compared with so many handles and rows for findings
+pub record Counted (ls ms : List Line) (handles found : ℕ) : Type 0 where
+  pub long : length ls + length ms ≤ handles
+  pub rows : out-count ls ≤ found
+  pub even : out-count ms ≡ out-count ls
+
+-- the first test on the counts that refuses
+abbrev pub Counts-refused : List Line → List Line → ℕ → ℕ → CompareFault → Type 0
+Counts-refused ls ms handles found ShortList = handles < length ls + length ms
+Counts-refused ls ms handles found FewFindings = (length ls + length ms ≤ handles) × (found < out-count ls)
+Counts-refused ls ms handles found OutCounts = (length ls + length ms ≤ handles) × (out-count ls ≤ found) × (out-count ms ≡ out-count ls → ⊥)
+Counts-refused ls ms handles found (Table f) = ⊥
+Counts-refused ls ms handles found (First e) = ⊥
+Counts-refused ls ms handles found (Second e) = ⊥
+Counts-refused ls ms handles found (Pair e) = ⊥
+
+-- nothing is changed
+pub record Unchanged (s t : Store) (P Q : Pairs) (hs hs′ : List ℕ) (cs cs′ : List Checked) : Type 0 where
+  pub table : t ≡ s
+  pub memo : Q ≡ P
+  pub handles : hs′ ≡ hs
+  pub found : cs′ ≡ cs
+
+-- the entries for the second netlist follow those for the first
+abbrev pub second-part : List Line → List Line → List ℕ → List ℕ
+second-part ls ms hs = take (length ms) (drop (length ls) hs)
+
+-- the tests before the lines passed
+pub record Begun (o : Ops) (s t : Store) (rows : ℕ) (ls ms : List Line) (hs hs′ : List ℕ) (cs cs′ : List Checked) (r : Result (Unit {0}) CompareFault) : Type 0 where
+  pub counted : Counted ls ms (length hs) (length cs)
+  pub enough : s .inputs < rows
+  pub parts : Parts-compared o s t ls ms (take (length ls) hs) (take (length ls) hs′) (second-part ls ms hs) (second-part ls ms hs′) (take (out-count ls) cs) (take (out-count ls) cs′) r
+  pub handles-rest : drop (length ls + length ms) hs′ ≡ drop (length ls + length ms) hs
+  pub found-rest : drop (out-count ls) cs′ ≡ drop (out-count ls) cs
+
+-- what comparing answers and leaves: the tests in order, then the lines and the pairs
+abbrev pub Compared : Ops → Store → Store → Pairs → Pairs → ℕ → List Line → List Line → List ℕ → List ℕ → List Checked → List Checked → Result ℕ CompareFault → Type 0
+Compared o s t P Q rows ls ms hs hs′ cs cs′ (Ok n) = (n ≡ out-count ls) × Begun o s t rows ls ms hs hs′ cs cs′ (Ok tt)
+Compared o s t P Q rows ls ms hs hs′ cs cs′ (Err ShortList) = Counts-refused ls ms (length hs) (length cs) ShortList × Unchanged s t P Q hs hs′ cs cs′
+Compared o s t P Q rows ls ms hs hs′ cs cs′ (Err FewFindings) = Counts-refused ls ms (length hs) (length cs) FewFindings × Unchanged s t P Q hs hs′ cs cs′
+Compared o s t P Q rows ls ms hs hs′ cs cs′ (Err OutCounts) = Counts-refused ls ms (length hs) (length cs) OutCounts × Unchanged s t P Q hs hs′ cs cs′
+Compared o s t P Q rows ls ms hs hs′ cs cs′ (Err (Table f)) = Counted ls ms (length hs) (length cs) × (rows ≤ s .inputs) × (f ≡ FewRows) × Unchanged s t P Q hs hs′ cs cs′
+Compared o s t P Q rows ls ms hs hs′ cs cs′ (Err (First e)) = Begun o s t rows ls ms hs hs′ cs cs′ (Err (First e))
+Compared o s t P Q rows ls ms hs hs′ cs cs′ (Err (Second e)) = Begun o s t rows ls ms hs hs′ cs cs′ (Err (Second e))
+Compared o s t P Q rows ls ms hs hs′ cs cs′ (Err (Pair e)) = Begun o s t rows ls ms hs hs′ cs cs′ (Err (Pair e))
+
+-- the event of a compare, from the handles hs and the rows cs that it left
+abbrev pub without-count : Result ℕ CompareFault → Result (Unit {0}) CompareFault
+without-count (Ok n) = Ok tt
+without-count (Err e) = Err e
+
+abbrev pub compare-event : List Line → List Line → List ℕ → List Checked → Result ℕ CompareFault → Event
+compare-event ls ms hs cs r = parts-event ls ms (take (length ls) hs) (second-part ls ms hs) (take (out-count ls) cs) (without-count r)

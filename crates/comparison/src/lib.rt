@@ -8,6 +8,7 @@ mod pairing;
 
 pub use checking::Checked;
 pub use checking::check;
+pub use comparing::compare;
 pub use fault::CompareFault;
 pub use fault::LayFault;
 pub use fault::LineReason;
