@@ -89,7 +89,7 @@ module _ (o : Ops) (n k : ℕ) (l : Line) (e : line-fault o n k l ≡ None) wher
       both-earlier is =
           let rest = not-refused (kind-known o (l .kind)) NoSuchKind _ e .1 in
           let both = both-true (ltb (l .first) k) (ltb (l .second) k) (unless-none (ltb (l .first) k && ltb (l .second) k) NotEarlier
-              (sym (cond-false (eqb (l .kind) 0) _ _ (ne-eqb (l .kind) 0 other) ∙ cond-false (eqb (l .kind) 1) _ _ (ne-eqb (l .kind) 1 more) ∙ cond-false (eqb (l .kind) 2 || eqb (l .kind) 8) _ _ is) ∙ rest)) in
+          (sym (cond-false (eqb (l .kind) 0) _ _ (ne-eqb (l .kind) 0 other) ∙ cond-false (eqb (l .kind) 1) _ _ (ne-eqb (l .kind) 1 more) ∙ cond-false (eqb (l .kind) 2 || eqb (l .kind) 8) _ _ is) ∙ rest)) in
           (ltb-true (l .first) k (both .0), ltb-true (l .second) k (both .1))
 
       pub operator-known : (l .kind ≡ 2 → ⊥) → (l .kind ≡ 8 → ⊥) → known o (l .kind) ≡ true

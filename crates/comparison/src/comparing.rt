@@ -66,8 +66,25 @@ fn compare_parts<G: Algebra, M: Memo>(
     let middle = first.len();
     let end = middle + second.len();
     in_first(lay(table, algebra, memo, rows, first, &mut handles[0..middle]))?;
-    in_second(lay(table, algebra, memo, rows, second, &mut handles[middle..end]))?;
-    check_pairs(table, algebra, memo, rows, first, second, &handles[0..middle], &handles[middle..end], found)?;
+    in_second(lay(
+        table,
+        algebra,
+        memo,
+        rows,
+        second,
+        &mut handles[middle..end],
+    ))?;
+    check_pairs(
+        table,
+        algebra,
+        memo,
+        rows,
+        first,
+        second,
+        &handles[0..middle],
+        &handles[middle..end],
+        found,
+    )?;
     Ok(())
 }
 
@@ -116,6 +133,15 @@ pub fn compare<G: Algebra, M: Memo>(
     if rows.len() <= table.inputs() as usize {
         return Err(CompareFault::Table(TableFault::FewRows));
     }
-    compare_parts(table, algebra, memo, rows, first, second, handles, &mut found[0..pairs])?;
+    compare_parts(
+        table,
+        algebra,
+        memo,
+        rows,
+        first,
+        second,
+        handles,
+        &mut found[0..pairs],
+    )?;
     Ok(pairs)
 }

@@ -26,8 +26,11 @@ use netlist::fault_of;
 
 // The numbers of the kinds that are no operators.
 const INPUT: u8 = 0;
+
 const CONST: u8 = 1;
+
 const NOT: u8 = 2;
+
 const OUT: u8 = 8;
 
 // The handle of a line that passed its own tests, from those of the lines before it.
@@ -62,7 +65,14 @@ fn make_line<G: Algebra, M: Memo>(
     if line.kind == NOT {
         return table.turn(algebra, memo, rows, x);
     }
-    table.join(algebra, memo, rows, line.kind, x, handles[line.second as usize])
+    table.join(
+        algebra,
+        memo,
+        rows,
+        line.kind,
+        x,
+        handles[line.second as usize],
+    )
 }
 
 // The handle of a line: its own tests come first, then those of the table.
@@ -110,7 +120,10 @@ pub fn lay<G: Algebra, M: Memo>(
         return Err(LayFault::Table(TableFault::FewRows));
     }
     for (number, line) in lines.iter().enumerate() {
-        let h = at_line(lay_line(table, algebra, memo, rows, number, *line, handles), number)?;
+        let h = at_line(
+            lay_line(table, algebra, memo, rows, number, *line, handles),
+            number,
+        )?;
         handles[number] = h;
     }
     Ok(())

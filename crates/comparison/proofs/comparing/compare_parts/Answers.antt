@@ -97,11 +97,12 @@ returns-in-Break-in-second g c =
     record {
       compared =
           parts-moved o s u ls ms (take a xs) (take (a - 0) xs) (take a H) hs (second-part ls ms xs) (take (a + b - a) (drop a mid)) (second-part ls ms H) ks (c .args .found .now) (c .args .found .now) r old front old2 back
-          (subst (λ r. Parts-compared o s u ls ms (take (a - 0) xs) hs (take (a + b - a) (drop a mid)) ks (c .args .found .now) (c .args .found .now) r) (sym is)
-          (first .0,
-          refused-since o s t u ms (take (a + b - a) (drop a mid)) ks (first .1) d
-          (laid-refused o t u Q R (length (c .lay .last .rows)) ms (take (a + b - a) (drop a mid)) ks long2 enough (c .lay-2 .result) d (err .1) (c .lay-2 .ensures .laid)),
-          refl));
+          (subst (λ r. Parts-compared o s u ls ms (take (a - 0) xs) hs (take (a + b - a) (drop a mid)) ks (c .args .found .now) (c .args .found .now) r) (sym is) (
+            first .0,
+            refused-since o s t u ms (take (a + b - a) (drop a mid)) ks (first .1) d
+                (laid-refused o t u Q R (length (c .lay .last .rows)) ms (take (a + b - a) (drop a mid)) ks long2 enough (c .lay-2 .result) d (err .1) (c .lay-2 .ensures .laid)),
+            refl,
+          ));
       rest = rest-part a b (a - 0) (a + b - a) xs hs ks e0 e1 lu lv;
       room = c .lay-2 .ensures .room ∙ c .lay .ensures .room;
       kept = λ run kept.
@@ -194,10 +195,10 @@ returns-in-Break-check-pairs g c =
     let grows = grows-trans (first .1) (second .1) in
     let same = c .lay-2 .ensures .room ∙ c .lay .ensures .room in
     let laid : (run : Run) → Kept o n run s P → Kept o n (no-pairs ls ms hs ks ∷ run) u R =
-        λ run kept.
-        subst (λ z. Kept o n (compare ls ms (map told hs) z [] [] ∷ run) u R) (answers-all ms ks (c .lay-2 .result) two lv)
-        (two-laid (g .G·Algebra .laws) (well (c .lay-2 .last .table .well)) n (room (c .lay .last .table)) (c .lay .ensures .room) P Q R ls ms hs (lay-answers ls hs (c .lay .result)) (lay-answers ms ks (c .lay-2 .result))
-        (answers-all ls hs (c .lay .result) one lu) (c .lay .ensures .kept) (c .lay-2 .ensures .kept) run kept) in
+    λ run kept.
+    subst (λ z. Kept o n (compare ls ms (map told hs) z [] [] ∷ run) u R) (answers-all ms ks (c .lay-2 .result) two lv)
+    (two-laid (g .G·Algebra .laws) (well (c .lay-2 .last .table .well)) n (room (c .lay .last .table)) (c .lay .ensures .room) P Q R ls ms hs (lay-answers ls hs (c .lay .result)) (lay-answers ms ks (c .lay-2 .result))
+    (answers-all ls hs (c .lay .result) one lu) (c .lay .ensures .kept) (c .lay-2 .ensures .kept) run kept) in
     let none = ap (λ k. first-fault o k 0 ms) (sym (first .1 .inputs)) ∙ second .0 in
     let cs = c .check-pairs .last .found in
     let isl : take (a - 0) H ≡ hs = front-part a b (a - 0) (a + b - a) xs hs ks e0 e1 lu lv in
@@ -261,10 +262,10 @@ returns g c =
     let grows = grows-trans (first .1) (second .1) in
     let same = c .lay-2 .ensures .room ∙ c .lay .ensures .room in
     let laid : (run : Run) → Kept o n run s P → Kept o n (no-pairs ls ms hs ks ∷ run) u R =
-        λ run kept.
-        subst (λ z. Kept o n (compare ls ms (map told hs) z [] [] ∷ run) u R) (answers-all ms ks (c .lay-2 .result) two lv)
-        (two-laid (g .G·Algebra .laws) (well (c .lay-2 .last .table .well)) n (room (c .lay .last .table)) (c .lay .ensures .room) P Q R ls ms hs (lay-answers ls hs (c .lay .result)) (lay-answers ms ks (c .lay-2 .result))
-        (answers-all ls hs (c .lay .result) one lu) (c .lay .ensures .kept) (c .lay-2 .ensures .kept) run kept) in
+    λ run kept.
+    subst (λ z. Kept o n (compare ls ms (map told hs) z [] [] ∷ run) u R) (answers-all ms ks (c .lay-2 .result) two lv)
+    (two-laid (g .G·Algebra .laws) (well (c .lay-2 .last .table .well)) n (room (c .lay .last .table)) (c .lay .ensures .room) P Q R ls ms hs (lay-answers ls hs (c .lay .result)) (lay-answers ms ks (c .lay-2 .result))
+    (answers-all ls hs (c .lay .result) one lu) (c .lay .ensures .kept) (c .lay-2 .ensures .kept) run kept) in
     let none = ap (λ k. first-fault o k 0 ms) (sym (first .1 .inputs)) ∙ second .0 in
     let cs = c .check-pairs .last .found in
     let isl : take (a - 0) H ≡ hs = front-part a b (a - 0) (a + b - a) xs hs ks e0 e1 lu lv in
