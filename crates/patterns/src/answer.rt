@@ -32,6 +32,9 @@ const LINES: usize = 512;
 
 const BYTES: usize = 40_000;
 
+// With more inputs there are too many patterns to try.
+const INPUTS: u8 = 16;
+
 const BLANK: Line = Line {
     kind: 0,
     first: 0,
@@ -118,7 +121,7 @@ fn put_comparison<G: Algebra>(
     ensures within { λ r. ⌜ r ≤ 40000 ⌝ }
     ensures text { λ r. ⌜ take r (now (out .exit)) ≡ compared ops inputs (now (first .entry)) (now (second .entry)) ⌝ }
 {
-    if inputs > 16 {
+    if inputs > INPUTS {
         return match check_comparison(
             algebra,
             inputs,
