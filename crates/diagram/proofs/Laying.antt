@@ -189,7 +189,7 @@ line-walked : {o : Ops} {n room : ℕ} {b : Book} {s t : Store} {P Q : Pairs} (l
 line-walked {o} {n} {room} {b} {s} {t} {P} {Q} ls hs a h before after =
     let ss = line-signals o n ls in
     let e : zipped step ss (map told hs ++ a ∷ []) ≡ zipped step ss (map told hs) ++ step (signal-at ss (length hs)) a ∷ [] =
-        zipped-more step ss (map told hs) (constant 0) a (omega (arith, length-map hs told, signals-length o n ls)) ∙ ap (λ i. zipped step ss (map told hs) ++ step (signal-at ss i) a ∷ []) (length-map hs told) in
+    zipped-more step ss (map told hs) (constant 0) a (omega (arith, length-map hs told, signals-length o n ls)) ∙ ap (λ i. zipped step ss (map told hs) ++ step (signal-at ss i) a ∷ []) (length-map hs told) in
     subst (λ x. Walked o n room b x t Q) (sym e) (walked-more (zipped step ss (map told hs)) (step (signal-at ss (length hs)) a) before after)
 
 module _ {o : Ops} (laws : Laws o) {s t : Store} (w : Well s) (v : Well t) {room : ℕ} (fits : t .used ≤ room) (P Q : Pairs) (run : Run) (refusal : Option TableFault) (r : Result ℕ TableFault) (shape : Shape s t P Q refusal r) where
