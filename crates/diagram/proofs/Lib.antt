@@ -25,3 +25,4 @@ pub mod Epochs
 pub mod MaskLoops
 pub mod Lookups
 pub mod Finds
+pub mod Matter

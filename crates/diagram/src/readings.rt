@@ -21,6 +21,7 @@ use algebra::Algebra;
 use netlist::Pattern;
 
 mod find;
+mod support;
 
 // The NOT of a value where the handle is marked.
 fn under_mark<G: Algebra>(algebra: &G, h: u32, code: u8) -> u8
