@@ -76,7 +76,12 @@ impl Table {
 
     // The mask of the inputs that matter to a handle: bit i is up if two patterns that differ only there have different
     // values.
-    pub fn support<G: Algebra>(&self, algebra: &G, rows: &mut [Row], h: u32) -> Result<u64, TableFault>
+    pub fn support<G: Algebra>(
+        &self,
+        algebra: &G,
+        rows: &mut [Row],
+        h: u32,
+    ) -> Result<u64, TableFault>
         ensures refusal { λ r. ⌜ refusal-of r ≡ support-refusal ops (view (now (self .entry))) (length (now (rows .entry))) h ⌝ }
         ensures kept { λ r. ⌜ (isErr r ≡ true → now (rows .exit) ≡ now (rows .entry)) ⌝ }
         ensures covers { λ r. ⌜ made r (λ m. Covers (view (now (self .entry))) m h) ⌝ }
