@@ -31,3 +31,4 @@ pub mod Comparing
 pub mod MaskLoops
 pub mod Lookups
 pub mod Finds
+pub mod Matter

@@ -16,3 +16,4 @@ pub mod Recalls
 pub mod Faults
 pub mod Outcomes
 pub mod Runs
+pub mod Supports

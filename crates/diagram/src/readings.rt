@@ -21,13 +21,18 @@ use algebra::Algebra;
 use netlist::Pattern;
 
 mod find;
+mod support;
 
 // The NOT of a value where the handle is marked.
 fn under_mark<G: Algebra>(algebra: &G, h: u32, code: u8) -> u8
     requires { ⌜ 16 ≤ h ⌝ }
     ensures { λ r. ⌜ r ≡ under-mark ops h code ⌝ }
 {
-    if is_marked(h) { algebra.turn(code) } else { code }
+    if is_marked(h) {
+        algebra.turn(code)
+    } else {
+        code
+    }
 }
 
 impl Table {
@@ -63,7 +68,11 @@ impl Table {
         ensures { λ r. ⌜ r ≡ side-on (view (now (self .entry))) h (pattern .number) ⌝ }
     {
         let record = self.record_of(h);
-        if pattern.bit(record.input) == 1 { record.high } else { record.low }
+        if pattern.bit(record.input) == 1 {
+            record.high
+        } else {
+            record.low
+        }
     }
 
     // Goes down by the pattern's bits to a constant, and turns it back up under each mark on the way.
@@ -101,7 +110,11 @@ impl Table {
             return 1 << h;
         }
         let reach = self.record_at(place_of(h)).reach;
-        if is_marked(h) { turned_mask(algebra, reach) } else { reach }
+        if is_marked(h) {
+            turned_mask(algebra, reach)
+        } else {
+            reach
+        }
     }
 
     // The mask of the values that a handle has: bit v is up if it has the value v on some pattern.

@@ -49,7 +49,12 @@ impl Table {
     }
 
     // The first pattern on which a handle has the wanted value; none exactly if the value's bit of its reach is down.
-    pub fn find<G: Algebra>(&self, algebra: &G, h: u32, wanted: u8) -> Result<Option<u64>, TableFault>
+    pub fn find<G: Algebra>(
+        &self,
+        algebra: &G,
+        h: u32,
+        wanted: u8,
+    ) -> Result<Option<u64>, TableFault>
         ensures refusal { λ r. ⌜ refusal-of r ≡ find-refusal ops (view (now (self .entry))) h wanted ⌝ }
         ensures shape { λ r. ⌜ made r (λ x. BySome x
             (up (reach-of ops (view (now (self .entry))) h) wanted ≡ false)

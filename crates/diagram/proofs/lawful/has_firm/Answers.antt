@@ -17,9 +17,10 @@ loop-v-again g c =
     let b = up (c .args .mask) v in
     let t = firm-code (g .G·Algebra .ops) v in
     let here : (not b || not t) ≡ true =
-        elim (c .else-is-up .came)
-        [ else-is-up·by·then-is-up·else-is-firm-code w ↦ passes b (not t) (not-from-false t (sym (w .is-firm-code .ensures) ∙ w .if-is-firm-code .left))
-        | else-is-up·by·else-is-up w ↦ passes-down b (not t) (sym (c .is-up .ensures) ∙ w .if-is-up .left) ]
+    elim (c .else-is-up .came) [
+      | else-is-up·by·then-is-up·else-is-firm-code w ↦ passes b (not t) (not-from-false t (sym (w .is-firm-code .ensures) ∙ w .if-is-firm-code .left))
+      | else-is-up·by·else-is-up w ↦ passes-down b (not t) (sym (c .is-up .ensures) ∙ w .if-is-up .left)
+    ]
     in
     below-more _ _ (c .loop-v .inv) here
 

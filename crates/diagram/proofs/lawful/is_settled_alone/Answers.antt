@@ -16,9 +16,10 @@ loop-v-again g c =
     let b = up (c .args .mask) v in
     let t = settled-code (g .G·Algebra .ops) v in
     let here : (not b || t) ≡ true =
-        elim (c .else-is-up .came)
-        [ else-is-up·by·then-is-up·else-not-is-settled-code w ↦ passes b t (sym (w .is-settled-code .ensures) ∙ w .if-not-is-settled-code .left)
-        | else-is-up·by·else-is-up w ↦ passes-down b t (sym (c .is-up .ensures) ∙ w .if-is-up .left) ]
+    elim (c .else-is-up .came) [
+      | else-is-up·by·then-is-up·else-not-is-settled-code w ↦ passes b t (sym (w .is-settled-code .ensures) ∙ w .if-not-is-settled-code .left)
+      | else-is-up·by·else-is-up w ↦ passes-down b t (sym (c .is-up .ensures) ∙ w .if-is-up .left)
+    ]
     in
     below-more _ _ (c .loop-v .inv) here
 

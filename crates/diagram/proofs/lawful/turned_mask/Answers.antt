@@ -11,6 +11,7 @@ loop-v-again g c =
     let laws = g .G·Algebra .laws in
     let m = c .args .mask in
     let v = c .loop-v .v in
-    elim (c .if-is-up .came)
-    [ then-is-up w ↦ turned-up laws m v _ _ (c .loop-v .inv) (w .turn .result) (w .turn .ensures) (w .turned-is) (sym (c .is-up .ensures) ∙ w .if-is-up .taken)
-    | else-is-up w ↦ turned-down laws m v _ _ (c .loop-v .inv) (w .turned-is) (sym (c .is-up .ensures) ∙ w .if-is-up .left) ]
+    elim (c .if-is-up .came) [
+      | then-is-up w ↦ turned-up laws m v _ _ (c .loop-v .inv) (w .turn .result) (w .turn .ensures) (w .turned-is) (sym (c .is-up .ensures) ∙ w .if-is-up .taken)
+      | else-is-up w ↦ turned-down laws m v _ _ (c .loop-v .inv) (w .turned-is) (sym (c .is-up .ensures) ∙ w .if-is-up .left)
+    ]
