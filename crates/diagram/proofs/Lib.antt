@@ -32,3 +32,8 @@ pub mod MaskLoops
 pub mod Lookups
 pub mod Finds
 pub mod Matter
+pub mod Passes
+pub mod Chooses
+pub mod Halves
+pub mod Walking
+pub mod Descents
