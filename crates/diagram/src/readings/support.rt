@@ -59,8 +59,8 @@ impl Table {
     }
 
     // A mask with the inputs that matter to `h` besides: those that the records below it test. A row holds a place whose
-    // inputs the mask has already. So with as many rows as places in use no place is visited twice, and with fewer the
-    // last one that was done at each input.
+    // inputs the mask has already. So no place is visited twice where there are as many rows as places in use; with
+    // fewer, at least the place that was done last at each input is not.
     fn collect(&self, rows: &mut [Row], h: u32, mask: u64) -> u64
         requires within { ⌜ Within (view (now self)) h ⌝ }
         requires enough { ⌜ view (now self) .inputs < length (now rows) ⌝ }
