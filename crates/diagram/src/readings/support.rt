@@ -45,11 +45,25 @@ fn has_rest(mask: u64, from: u8, inputs: u8) -> bool
 }
 
 impl Table {
-    // A mask with the inputs that matter to `h` besides: those that the records below it test. A row holds a place
-    // whose inputs the mask has already, so that none is visited twice where there are more rows than places below.
+    // The row that may hold a place as done: its own where there are enough rows, and else the row of its input.
+    fn row_of(&self, rows: usize, place: usize, input: u8) -> usize
+        requires place { ⌜ place < view (now self) .used ⌝ }
+        requires input { ⌜ input < view (now self) .inputs ⌝ }
+        requires enough { ⌜ view (now self) .inputs < rows ⌝ }
+        ensures { λ r. ⌜ r < rows ⌝ }
+    {
+        if rows < self.used() {
+            return input as usize;
+        }
+        place
+    }
+
+    // A mask with the inputs that matter to `h` besides: those that the records below it test. A row holds a place whose
+    // inputs the mask has already. So no place is visited twice where there are as many rows as places in use; with
+    // fewer, at least the place that was done last at each input is not.
     fn collect(&self, rows: &mut [Row], h: u32, mask: u64) -> u64
         requires within { ⌜ Within (view (now self)) h ⌝ }
-        requires some { ⌜ 0 < length (now rows) ⌝ }
+        requires enough { ⌜ view (now self) .inputs < length (now rows) ⌝ }
         requires done { ⌜ All-done (view (now self)) mask (now rows) ⌝ }
         ensures collected { λ r. ⌜ Collected (view (now (self .entry))) h mask r ⌝ }
         ensures done { λ r. ⌜ All-done (view (now (self .entry))) r (now (rows .exit)) ⌝ }
@@ -57,13 +71,13 @@ impl Table {
         if is_constant(h) {
             return mask;
         }
+        let record = self.record_of(h);
         let place = place_of(h);
         let bare = handle_of(place);
-        let row = place % rows.len();
+        let row = self.row_of(rows.len(), place, record.input);
         if rows[row].low == bare {
             return mask;
         }
-        let record = self.record_of(h);
         if has_rest(mask, record.input, self.inputs()) {
             return mask;
         }

@@ -5,12 +5,11 @@ use native.Mathlib.Omega.{arith}
 use borrow.Author.Needs.{needs}
 use lib.Bits.{bitOr}
 use lib.ListN.{length}
-use Rattle.std.proofs.shelf.Bits.{mod-below}
 use Rattle.std.proofs.shelf.Tests.{ltb-true, ltb-false}
 use Rattle.diagram.specs.Stores.{handle, place, up}
 use Rattle.diagram.specs.Supports.{Covers, More}
 use Rattle.diagram.specs.Views.{view}
-use Rattle.diagram.proofs.Shapes.{well}
+use Rattle.diagram.proofs.Shapes.{well, place-below}
 use Rattle.diagram.proofs.Matter.{more-same, collected-none, covers-constant, covers-marked, covers-rest, own-more, covers-place, collected-step, done-more, done-set}
 use Rattle.diagram.proofs.table.Table.+collect.Needs as need
 
@@ -23,15 +22,22 @@ returns-then-is-constant t c =
       done = c .pre .done;
     }
 
+pub row-of-row-requires : need.row-of-row-requires
+row-of-row-requires t c κs =
+    let h = c .args .h in
+    let large = ltb-false h 16 (sym (c .is-constant .ensures) ∙ c .if-is-constant .left) in
+    let used = place-below h (view (c .args .self .now) .used) large (c .pre .within) in
+    record { place = omega arith; input = c .record-of-record .ensures .placed .within; enough = c .pre .enough }
+
 pub returns-then-rows-row : need.returns-then-rows-row
 returns-then-rows-row t c =
     let s = view (c .args .self .now) in
     let h = c .args .h in
     let m = c .args .mask in
     let rows = c .args .rows .now in
-    let k = c .place-of-place .result % length rows in
+    let k = c .row-of-row .result in
     let large = ltb-false h 16 (sym (c .is-constant .ensures) ∙ c .if-is-constant .left) in
-    let less : k < length rows = mod-below (c .place-of-place .result) (length rows) (c .pre .some) in
+    let less : k < length rows = c .row-of-row .ensures in
     let bare = c .if-rows-row .taken ∙ c .handle-of-bare .ensures ∙ ap handle (c .place-of-place .ensures) in
     record {
       collected = collected-none s h m (covers-marked (well (c .args .self .now .well)) h m large (c .pre .within) (subst (Covers s m) bare (c .pre .done k less)));
@@ -76,7 +82,7 @@ collect-low-requires t c κs =
     let less : r .low < h = omega arith in
     let small : r .input < 64 = omega (arith, w .few, c .record-of-record .ensures .placed .within) in
     let own = bitOr m ((1 * 2 ^ r .input) % 2 ^ 64) in
-    (search needs, (omega arith, (c .pre .some, done-more s m own (c .args .rows .now) (own-more w h m own 0 0 r large u (c .record-of-record .ensures .read) small refl) (c .pre .done))))
+    (search needs, (omega arith, (c .pre .enough, done-more s m own (c .args .rows .now) (own-more w h m own 0 0 r large u (c .record-of-record .ensures .read) small refl) (c .pre .done))))
 
 pub collect-both-requires : need.collect-both-requires
 collect-both-requires t c κs =
@@ -85,7 +91,7 @@ collect-both-requires t c κs =
     let u = c .pre .within in
     let before = c .record-of-record .ensures .placed .high-before in
     let less : c .record-of-record .result .high < h = omega arith in
-    (search needs, (omega arith, (omega (arith, c .pre .some, c .collect-low .kept .rows), c .collect-low .ensures .done)))
+    (search needs, (omega arith, (omega (arith, c .pre .enough, c .collect-low .kept .rows), c .collect-low .ensures .done)))
 
 pub returns : need.returns
 returns t c =
@@ -97,13 +103,13 @@ returns t c =
     let low = c .collect-low .result in
     let both = c .collect-both .result in
     let rows = c .collect-both .last .rows in
-    let k = c .place-of-place .result % length (c .args .rows .now) in
+    let k = c .row-of-row .result in
     let large = ltb-false h 16 (sym (c .is-constant .ensures) ∙ c .if-is-constant .left) in
     let u = c .pre .within in
     let small : r .input < 64 = omega (arith, w .few, c .record-of-record .ensures .placed .within) in
     let own = bitOr m ((1 * 2 ^ r .input) % 2 ^ 64) in
     let read = c .record-of-record .ensures .read in
-    let less : k < length rows = omega (arith, mod-below (c .place-of-place .result) (length (c .args .rows .now)) (c .pre .some), c .collect-low .kept .rows, c .collect-both .kept .rows) in
+    let less : k < length rows = omega (arith, c .row-of-row .ensures, c .collect-low .kept .rows, c .collect-both .kept .rows) in
     let bare = c .handle-of-bare .ensures ∙ ap handle (c .place-of-place .ensures) in
     record {
       collected = collected-step w h m own low both r large u read small refl (c .collect-low .ensures .collected) (c .collect-both .ensures .collected);

@@ -24,7 +24,7 @@ collect-requires g c κs =
     let l : lawful o s h ≡ true = sym (c .is-lawful .ensures) ∙ c .if-not-is-lawful .left in
     record {
       within = lawful-within o s h l;
-      some = omega (arith, c .clear .kept .rows);
+      enough = omega (arith, c .clear .kept .rows);
       done = done-cleared s 0 (c .clear .last .rows) (c .clear .ensures);
     }
 
