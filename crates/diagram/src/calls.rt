@@ -1,7 +1,6 @@
 // The calls that change a table. Each makes its tests in a fixed order, and leaves a table that was full as it was.
 ghost use mathlib.Core.Path.{_≡_};
-ghost use mathlib.Core.List.{[]};
-ghost use Prim.Native.Nat.{_+_, _<_, _≤_, min};
+ghost use Prim.Native.Nat.{_<_, _≤_};
 ghost use lib.ListN.{length};
 ghost use Rattle.std.specs.Results.{Cases as ByOk};
 ghost use Rattle.std.specs.declared.option.Option.the-variants.{None};
@@ -12,7 +11,7 @@ ghost use Rattle.diagram.specs.Faults.{start-refusal, input-refusal, constant-
 ghost use Rattle.diagram.specs.Memos.{Pairs};
 ghost use Rattle.diagram.specs.Outcomes.{Begun, Stopped, Shape, Meaning, Means, True-pairs};
 ghost use Rattle.diagram.specs.Rules.{Sound, Lawful};
-ghost use Rattle.diagram.specs.Stores.{level, value};
+ghost use Rattle.diagram.specs.Stores.{value};
 ghost use Rattle.diagram.specs.Views.{view, room};
 ghost use Rattle.diagram.specs.Walks.{combined};
 use crate::codes::Codes;
@@ -29,6 +28,7 @@ const MOST_INPUTS: u8 = 60;
 
 // The codes of the two values of an input's bit.
 const BIT_DOWN: u32 = 0;
+
 const BIT_UP: u32 = 1;
 
 impl Table {
@@ -48,7 +48,12 @@ impl Table {
     }
 
     // The handle of an input.
-    pub fn input<G: Algebra, M: Memo>(&mut self, algebra: &G, memo: &mut M, input: u8) -> Result<u32, TableFault>
+    pub fn input<G: Algebra, M: Memo>(
+        &mut self,
+        algebra: &G,
+        memo: &mut M,
+        input: u8,
+    ) -> Result<u32, TableFault>
         ensures shape { λ r. ⌜ Shape (view (now (self .entry))) (view (now (self .exit))) (recalls (now (memo .entry))) (recalls (now (memo .exit))) (input-refusal (view (now (self .entry))) input) r ⌝ }
         ensures meaning { λ r. ⌜ Meaning ops (room (now (self .entry))) (view (now (self .entry))) (view (now (self .exit))) (recalls (now (memo .entry))) (recalls (now (memo .exit))) (input-signal (view (now (self .entry)) .inputs) input) r ⌝ }
         ensures room { λ _. ⌜ room (now (self .exit)) ≡ room (now (self .entry)) ⌝ }
@@ -57,10 +62,11 @@ impl Table {
         if input >= self.inputs() {
             return Err(TableFault::NoSuchInput);
         }
+        let used = self.used();
         match self.make(algebra, Codes::of(algebra), input, BIT_DOWN, BIT_UP) {
             Ok(h) => Ok(h),
             Err(_) => {
-                memo.clear();
+                self.cut_back(memo, used);
                 Err(TableFault::Full)
             }
         }
@@ -79,7 +85,16 @@ impl Table {
     }
 
     // The walk over two handles; if it finds the table full, back to the places that were in use, and the memo forgets.
-    fn apply<G: Algebra, M: Memo>(&mut self, algebra: &G, codes: Codes, memo: &mut M, rows: &mut [Row], op: u8, x: u32, y: u32) -> Result<u32, TableFault>
+    fn apply<G: Algebra, M: Memo>(
+        &mut self,
+        algebra: &G,
+        codes: Codes,
+        memo: &mut M,
+        rows: &mut [Row],
+        op: u8,
+        x: u32,
+        y: u32,
+    ) -> Result<u32, TableFault>
         requires codes { ⌜ codes ≡ codes-of ops ⌝ }
         requires x { ⌜ Within (view (now self)) x ⌝ }
         requires y { ⌜ Within (view (now self)) y ⌝ }
@@ -93,15 +108,20 @@ impl Table {
         match walk(self, algebra, codes, memo, rows, op, x, y) {
             Ok(h) => Ok(h),
             Err(_) => {
-                self.truncate(used);
-                memo.clear();
+                self.cut_back(memo, used);
                 Err(TableFault::Full)
             }
         }
     }
 
     // The handle of the NOT of a handle's signal.
-    pub fn turn<G: Algebra, M: Memo>(&mut self, algebra: &G, memo: &mut M, rows: &mut [Row], x: u32) -> Result<u32, TableFault>
+    pub fn turn<G: Algebra, M: Memo>(
+        &mut self,
+        algebra: &G,
+        memo: &mut M,
+        rows: &mut [Row],
+        x: u32,
+    ) -> Result<u32, TableFault>
         ensures shape { λ r. ⌜ Shape (view (now (self .entry))) (view (now (self .exit))) (recalls (now (memo .entry))) (recalls (now (memo .exit))) (turn-refusal ops (view (now (self .entry))) (length (now (rows .entry))) x) r ⌝ }
         ensures meaning { λ r. ⌜ Meaning ops (room (now (self .entry))) (view (now (self .entry))) (view (now (self .exit))) (recalls (now (memo .entry))) (recalls (now (memo .exit))) (turned ops (value ops (view (now (self .entry))) x)) r ⌝ }
         ensures room { λ _. ⌜ room (now (self .exit)) ≡ room (now (self .entry)) ⌝ }
@@ -118,7 +138,15 @@ impl Table {
     }
 
     // The handle of what an operator, by its number, gives of two handles' signals.
-    pub fn join<G: Algebra, M: Memo>(&mut self, algebra: &G, memo: &mut M, rows: &mut [Row], op: u8, x: u32, y: u32) -> Result<u32, TableFault>
+    pub fn join<G: Algebra, M: Memo>(
+        &mut self,
+        algebra: &G,
+        memo: &mut M,
+        rows: &mut [Row],
+        op: u8,
+        x: u32,
+        y: u32,
+    ) -> Result<u32, TableFault>
         ensures shape { λ r. ⌜ Shape (view (now (self .entry))) (view (now (self .exit))) (recalls (now (memo .entry))) (recalls (now (memo .exit))) (join-refusal ops (view (now (self .entry))) (length (now (rows .entry))) op x y) r ⌝ }
         ensures meaning { λ r. ⌜ Meaning ops (room (now (self .entry))) (view (now (self .entry))) (view (now (self .exit))) (recalls (now (memo .entry))) (recalls (now (memo .exit))) (joined ops op (value ops (view (now (self .entry))) x) (value ops (view (now (self .entry))) y)) r ⌝ }
         ensures room { λ _. ⌜ room (now (self .exit)) ≡ room (now (self .entry)) ⌝ }

@@ -1,13 +1,14 @@
-use mathlib.Core.Path.{refl}
+use mathlib.Core.Path.{refl, _∙_, subst}
 use mathlib.Core.Logic.{inr}
 use native.Mathlib.Omega.{arith}
 use Prim.Native.Nat.{_<_}
 use Rattle.std.proofs.shelf.Tests.{lt-ltb}
 use Rattle.netlist.specs.Signals.{input}
+use Rattle.diagram.specs.Steps.{Back}
 use Rattle.diagram.specs.Views.{view, room}
 use Rattle.diagram.proofs.Adds.{grows-refl}
 use Rattle.diagram.proofs.Shapes.{well}
-use Rattle.diagram.proofs.Fulls.{overfull, back-same, bit-beyond, bit-lawful, input-result, input-out, table-fits, passes}
+use Rattle.diagram.proofs.Fulls.{overfull, back-again, bit-lawful, input-result, input-out, table-fits, passes}
 use Rattle.diagram.proofs.table.Table.input.Needs as need
 
 pub returns-in-Ok : need.returns-in-Ok
@@ -32,11 +33,12 @@ returns-in-Err g c =
     let w = well (c .args .self .now .well) in
     let inside : c .args .input < s .inputs = omega (arith, c .inputs .ensures) in
     let made = c .in-Err .ensures tt in
+    let back = subst (λ n. Back (view (c .make .last .self)) n (view (c .cut-back .last .self))) (c .used-used .ensures) (c .cut-back .ensures .back) in
     record {
-      shape = inr (record { passed = passes _ _ _ (lt-ltb (c .args .input) (s .inputs) inside); full = refl; table = back-same (made .shape); memo = c .clear .ensures });
+      shape = inr (record { passed = passes _ _ _ (lt-ltb (c .args .input) (s .inputs) inside); full = refl; table = back-again (made .grows) back; memo = c .cut-back .ensures .memo });
       meaning = λ sound pairs.
           overfull laws w w (grows-refl s) (room (c .args .self .now)) (input (s .inputs) (c .args .input))
           (input-out (room (c .args .self .now)) s (c .args .input) sound (made .meaning sound (bit-lawful laws s 0 (omega arith)) (bit-lawful laws s 1 (omega arith))));
-      room = made .room;
-      fits = table-fits (c .make .last .self);
+      room = c .cut-back .ensures .room ∙ made .room;
+      fits = table-fits (c .cut-back .last .self);
     }
