@@ -37,3 +37,4 @@ pub mod Chooses
 pub mod Halves
 pub mod Walking
 pub mod Descents
+pub mod Fulls

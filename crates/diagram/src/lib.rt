@@ -1,4 +1,5 @@
 // Shared decision diagrams of signals: records with NOT marks, one handle for one signal.
+mod calls;
 mod codes;
 mod fault;
 mod handle;

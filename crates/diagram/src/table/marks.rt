@@ -1,10 +1,10 @@
 // NOT of a handle, and the values that a handle has.
 ghost use mathlib.Core.Path.{_≡_};
-ghost use mathlib.Core.Bool.{cond};
 ghost use Prim.Native.Nat.{_<_, _≤_};
 ghost use Rattle.diagram.specs.Changes.{Within};
 ghost use Rattle.diagram.specs.Codes.{codes-of};
 ghost use Rattle.diagram.specs.Marks.{flipped, negate, reach-of, leads-plain};
+ghost use Rattle.diagram.specs.Rules.{lawful};
 ghost use Rattle.diagram.specs.Views.{view};
 use super::Table;
 use crate::codes::Codes;
@@ -59,6 +59,28 @@ impl Table {
             return 1 << h;
         }
         let reach = self.record_at(place_of(h)).reach;
-        if is_marked(h) { turn_mask(algebra, reach) } else { reach }
+        if is_marked(h) {
+            turn_mask(algebra, reach)
+        } else {
+            reach
+        }
+    }
+
+    // Whether a handle is a code of the algebra or a place in use, marked only where it may be.
+    pub(crate) fn lawful<G: Algebra>(&self, algebra: &G, codes: Codes, h: u32) -> bool
+        requires { ⌜ codes ≡ codes-of ops ⌝ }
+        ensures { λ r. ⌜ r ≡ lawful ops (view (now (self .entry))) h ⌝ }
+    {
+        if is_constant(h) {
+            return h < algebra.value_count() as u32;
+        }
+        let p = place_of(h);
+        if p >= self.used() {
+            return false;
+        }
+        if !is_marked(h) {
+            return true;
+        }
+        codes.may_mark(self.record_at(p).reach)
     }
 }

@@ -1,5 +1,5 @@
-use mathlib.Core.Path.{_≡_, refl, sym, _∙_, ap, subst}
-use Prim.Native.Nat.{_+_, _<_, _≤_}
+use mathlib.Core.Path.{refl, sym, _∙_, ap, subst}
+use Prim.Native.Nat.{_+_, _≤_}
 use native.Mathlib.Omega.{arith}
 use borrow.Author.Needs.{needs}
 use lib.ListN.{length}
@@ -11,7 +11,7 @@ use Rattle.diagram.specs.Views.{view, room}
 use Rattle.diagram.specs.Walks.{Ran-out, combined}
 use Rattle.diagram.proofs.Adds.{grows-refl, grows-trans}
 use Rattle.diagram.proofs.Descents.{leaf-from, negated-from, moved-from, some-row, low-rows, high-rows, low-beyond, high-beyond}
-use Rattle.diagram.proofs.Halves.{Halved, halved}
+use Rattle.diagram.proofs.Halves.{halved}
 use Rattle.diagram.proofs.Passes.{settled-test}
 use Rattle.diagram.proofs.Shapes.{well}
 use Rattle.diagram.proofs.Values.{within-grows}
