@@ -12,7 +12,7 @@ pub fn counting_stands() -> u8
 
 // Two lawful handles of a table that was started under an algebra and have the same signal are one.
 pub fn one_number_stands() -> u8
-    ensures { λ r. ⌜ (r ≡ 0) × One-number ⌝ }
+    ensures { λ r. ⌜ (r ≡ 1) × One-number ⌝ }
 {
-    0
+    1
 }
