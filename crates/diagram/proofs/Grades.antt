@@ -27,7 +27,7 @@ module _ (m : ℕ) (g g′ s s′ t t′ : Signal) (grades : (p : ℕ) → p < m
   differs-alike v (Some p) a b below same =
       ap₂ (λ y z. Differs (record { grade = v; pattern = p; left = y; right = z })) (left p (below p refl)) (right p (below p refl))
 
-  gravest-alike : (vs : List ℕ) → gravest m g s t vs ≡ gravest m g′ s′ t′ vs
+  pub gravest-alike : (vs : List ℕ) → gravest m g s t vs ≡ gravest m g′ s′ t′ vs
   unfolding gravest
   gravest-alike [] = refl
   gravest-alike (v ∷ vs) =

@@ -18,8 +18,8 @@ use crate::line::Line;
 use crate::pattern::Pattern;
 use algebra::Algebra;
 
-// Why a line is refused, if it is.
-fn fault_of<G: Algebra>(algebra: &G, inputs: u8, number: usize, line: Line) -> Option<LineFault>
+// Why a line is refused, if it is, from its number and the number of inputs.
+pub fn fault_of<G: Algebra>(algebra: &G, inputs: u8, number: usize, line: Line) -> Option<LineFault>
     ensures { λ r. ⌜ r ≡ line-fault ops inputs number line ⌝ }
 {
     let Some(kind) = Kind::from_number(line.kind) else {

@@ -13,6 +13,7 @@ pub use comparison::check_comparison;
 pub use comparison::compare_by_patterns;
 pub use evaluation::check_lines;
 pub use evaluation::evaluate;
+pub use evaluation::fault_of;
 pub use fault::ComparisonFault;
 pub use fault::EvaluationFault;
 pub use fault::EvaluationFromNetlist;

@@ -1,0 +1,3 @@
+pub mod Gravest
+pub mod Checks
+pub mod Lines

@@ -1,0 +1,4 @@
+pub mod Gradings
+pub mod Checks
+pub mod Faults
+pub mod Lays

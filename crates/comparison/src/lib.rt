@@ -1,0 +1,13 @@
+// Comparing netlists on a table of diagrams.
+mod checking;
+mod fault;
+mod grading;
+mod laying;
+
+pub use checking::Checked;
+pub use checking::check;
+pub use fault::CompareFault;
+pub use fault::LayFault;
+pub use fault::LineReason;
+pub use fault::LineRefusal;
+pub use fault::PairRefusal;
