@@ -12,13 +12,14 @@ use Rattle.diagram.specs.declared.record.Record.{Record}
 use Rattle.diagram.specs.Stores.{Store, handle, side, value, up}
 use Rattle.diagram.specs.Rules.{Placed, Well, Sound, Lawful, Occurs, Settled-alone, First-firm}
 use Rattle.diagram.specs.Changes.{Within, Grows, Added}
-use Rattle.diagram.specs.Marks.{Sides}
+use Rattle.diagram.specs.Steps.{Fits}
+use Rattle.diagram.specs.Marks.{choice}
 use Rattle.diagram.proofs.Bits.{fixed, chosen-below}
 use Rattle.diagram.proofs.Values.{level-grows, lawful-grows, value-handle, value-grows}
 use Rattle.diagram.proofs.Moves.{pattern-moved, placed-moved, occurs-moved, settled-moved, first-moved}
 use Rattle.diagram.proofs.Masks.{Reach}
 use Rattle.diagram.proofs.Reaches.{Union}
-use Rattle.diagram.proofs.Firsts.{choice, choice-down, choice-up, choice-low, choice-high, bit-cases}
+use Rattle.diagram.proofs.Firsts.{choice-down, choice-up, choice-low, choice-high, bit-cases}
 
 pub grows-refl : (s : Store) → Grows s s
 grows-refl s = record { inputs = refl; more = omega arith; same = λ p l. refl }
@@ -40,7 +41,7 @@ added-at {s} {t} d p e = ap (t .at) e ∙ d .new
 abbrev pub Absent : Store → ℕ → ℕ → ℕ → Type 0
 Absent s i low high = (p : ℕ) → p < s .used → s .at p .input ≡ i → s .at p .low ≡ low → s .at p .high ≡ high → ⊥
 
-pub well-added : {s t : Store} {r : Record} (w : Well s) → Sides s (r .input) (r .low) (r .high) → Absent s (r .input) (r .low) (r .high) → Added s t r → Well t
+pub well-added : {s t : Store} {r : Record} (w : Well s) → Fits s (r .input) (r .low) (r .high) → Absent s (r .input) (r .low) (r .high) → Added s t r → Well t
 well-added {s} {t} {r} w sides absent d =
     record {
       few = omega (arith, d .inputs, w .few);
@@ -95,7 +96,7 @@ value-at o {s} {t} w v grows i low high p q u a b ei el eh =
     ∙ value-grows o w grows (cond c high low) q (cond-both c high low (Within s) (λ _. b) (λ _. a))
 
 -- the rules stand if the new record's sides are lawful, its reach is right and its first firm value is plain
-module _ {o : Ops} {s t : Store} {r : Record} (w : Well s) (v : Well t) (sound : Sound o s) (d : Added s t r) (sides : Sides s (r .input) (r .low) (r .high))
+module _ {o : Ops} {s t : Store} {r : Record} (w : Well s) (v : Well t) (sound : Sound o s) (d : Added s t r) (sides : Fits s (r .input) (r .low) (r .high))
     (low : Lawful o s (r .low)) (high : Lawful o s (r .high)) (mask : Union o s (r .low) (r .high) (r .reach)) where
   grows : Grows s t
   grows = added-grows d

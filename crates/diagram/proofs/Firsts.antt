@@ -1,7 +1,7 @@
 -- The first firm value of a record is that of its low side, or of its high side if the low side has none.
 -- Assumes nothing.
 use mathlib.Core.Path.{_≡_, sym, ap, _∙_, subst}
-use mathlib.Core.Bool.{cond, not}
+use mathlib.Core.Bool.{not}
 use mathlib.Core.Logic.{_⊎_, inl, inr, ⊎-elim}
 use Prim.Native.Nat.{ℕ, _+_, _-_, _^_, _<_, _≤_}
 use native.Mathlib.Omega.{arith}
@@ -13,7 +13,8 @@ use Rattle.netlist.specs.Signals.{Signal, bit}
 use Rattle.diagram.specs.Stores.{Store, handle, place, marked, level, value}
 use Rattle.diagram.specs.Rules.{Well, Sound, Lawful, firm-mask, Settled-alone, First-firm}
 use Rattle.diagram.specs.Changes.{Within}
-use Rattle.diagram.specs.Marks.{reach-of, leads-plain, lead, Sides}
+use Rattle.diagram.specs.Steps.{Fits}
+use Rattle.diagram.specs.Marks.{reach-of, leads-plain, lead, choice}
 use Rattle.diagram.proofs.Bits.{fixed, fixed-after, chosen-below, chosen-bit, small-down, cleared-small, raised-before}
 use Rattle.diagram.proofs.Values.{at-constant, at-place, unmarked-handle, lawful-place, lawful-within, handle-lawful, value-constant, value-under, under-marked, ignores, codes}
 use Rattle.diagram.proofs.Masks.{Some-firm, mask-firm, firm-is-mask, firm-turned, firm-unturned}
@@ -51,9 +52,6 @@ leads-unturned {o} laws {n} {f} {g} {q} few alone turned l =
     }
 
 -- the signal of a record that tests input i
-abbrev pub choice : Ops → Store → ℕ → ℕ → ℕ → Signal
-choice o s i low high = λ q. value o s (cond (eqb (bit (s .inputs) q i) 1) high low) q
-
 pub choice-down : (o : Ops) (s : Store) (i low high q : ℕ) → bit (s .inputs) q i ≡ 0 → choice o s i low high q ≡ value o s low q
 choice-down o s i low high q e = ap (λ h. value o s h q) (cond-false (eqb (bit (s .inputs) q i) 1) high low (ne-eqb (bit (s .inputs) q i) 1 (λ d. omega arith)))
 
@@ -108,7 +106,7 @@ module _ {o : Ops} (laws : Laws o) {s : Store} (w : Well s) (sound : Sound o s) 
       (cases-bool (marked h)))
       (cases-lt h 16)
 
-  module _ (i low high : ℕ) (sides : Sides s i low high) (low-lawful : Lawful o s low) (high-lawful : Lawful o s high) where
+  module _ (i low high : ℕ) (sides : Fits s i low high) (low-lawful : Lawful o s low) (high-lawful : Lawful o s high) where
     low-leads : (q : ℕ) → Some-firm o s low → Leads o (s .inputs) (choice o s i low high) q → Leads o (s .inputs) (value o s low) q × (choice o s i low high q ≡ value o s low q)
     low-leads q some f =
         let n = s .inputs in

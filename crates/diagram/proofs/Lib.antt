@@ -26,3 +26,9 @@ pub mod MaskLoops
 pub mod Lookups
 pub mod Finds
 pub mod Matter
+pub mod Passes
+pub mod Chooses
+pub mod Halves
+pub mod Walking
+pub mod Descents
+pub mod Fulls

@@ -13,14 +13,15 @@ use Rattle.netlist.specs.Signals.{bit}
 use Rattle.diagram.specs.Stores.{Store, handle, place, level, value, up}
 use Rattle.diagram.specs.Rules.{Well, Sound, Lawful, settled-code, settled-mask, firm-mask, may-mark, Settled-alone, First-firm}
 use Rattle.diagram.specs.Changes.{Within, Grows, Added}
-use Rattle.diagram.specs.Marks.{flipped, negate, turn-mask, reach-of, union, leads-plain, lead, turns, kept-low, kept-high, kept-reach, kept, made-handle, Sides, Made}
+use Rattle.diagram.specs.Steps.{Fits}
+use Rattle.diagram.specs.Marks.{flipped, negate, turn-mask, reach-of, union, leads-plain, lead, turns, kept-low, kept-high, kept-reach, kept, made-handle, choice, Made}
 use Rattle.diagram.proofs.Bits.{fixed, chosen-below}
 use Rattle.diagram.proofs.Values.{at-constant, place-handle, place-marked, level-place, place-lawful, handle-lawful, value-marked, codes}
 use Rattle.diagram.proofs.Moves.{pattern-moved}
 use Rattle.diagram.proofs.Masks.{mask-code, mask-some, settled-code-settled, firm-turned, Some-firm, Reach, settled-is-mask, firm-is-mask}
 use Rattle.diagram.proofs.Negates.{negate-constant, negate-flips, negate-stays, negate-small, negate-large, negate-place, negate-before, negate-level, negate-lawful, negate-value, may-mark-bare, flipped-twice}
 use Rattle.diagram.proofs.Reaches.{up-one, up-union-left, up-union-right, Union, union-right, union-turned}
-use Rattle.diagram.proofs.Firsts.{choice, choice-down, choice-up, choice-low, choice-high, bit-cases, Leads, first-leads, leads-agree, leads-unturned, lead-plain}
+use Rattle.diagram.proofs.Firsts.{choice-down, choice-up, choice-low, choice-high, bit-cases, Leads, first-leads, leads-agree, leads-unturned, lead-plain}
 use Rattle.diagram.proofs.Adds.{Absent, grows-refl, added-grows, well-added, value-at, value-new, reach-new, sound-added}
 
 -- The shape, which needs no rule.
@@ -64,10 +65,10 @@ turns-parts o s low high e =
     let masks = and-parts (settled-mask o m) (firm-mask o m) (parts .0) in
     (masks .0, masks .1, not-true (leads-plain o (lead o s low high)) (parts .1))
 
-pub kept-sides : {o : Ops} → Laws o → {s : Store} {i low high : ℕ} → Sides s i low high → Sides s i (kept-low o s low high) (kept-high o s low high)
+pub kept-sides : {o : Ops} → Laws o → {s : Store} {i low high : ℕ} → Fits s i low high → Fits s i (kept-low o s low high) (kept-high o s low high)
 kept-sides {o} laws {s} {i} {low} {high} sides =
     ⊎-elim
-    (λ e. subst (λ b. Sides s i (cond b (negate o s low) low) (cond b (negate o s high) high)) (sym e)
+    (λ e. subst (λ b. Fits s i (cond b (negate o s low) low) (cond b (negate o s high) high)) (sym e)
     (record {
       inside = sides .inside;
       low-within = negate-before laws s low (s .used) (sides .low-within);
@@ -76,14 +77,14 @@ kept-sides {o} laws {s} {i} {low} {high} sides =
       high-deeper = omega (arith, negate-level laws s high, sides .high-deeper);
       differ = negate-differ laws s low high (turns-parts o s low high e .0) (sides .differ);
     }))
-    (λ e. subst (λ b. Sides s i (cond b (negate o s low) low) (cond b (negate o s high) high)) (sym e) sides)
+    (λ e. subst (λ b. Fits s i (cond b (negate o s low) low) (cond b (negate o s high) high)) (sym e) sides)
     (cases-bool (turns o s low high))
 
-pub well-made : {o : Ops} → Laws o → {s t : Store} (w : Well s) {i low high : ℕ} → Sides s i low high → Absent s i (kept-low o s low high) (kept-high o s low high)
+pub well-made : {o : Ops} → Laws o → {s t : Store} (w : Well s) {i low high : ℕ} → Fits s i low high → Absent s i (kept-low o s low high) (kept-high o s low high)
     → Added s t (kept o s i low high) → Well t
 well-made laws w sides absent d = well-added w (kept-sides laws sides) absent d
 
-made-place : (o : Ops) (s : Store) (low high p : ℕ) → (16 ≤ made-handle o s low high p) × (made-handle o s low high p ≤ handle p + 1) × (place (made-handle o s low high p) ≡ p)
+pub made-place : (o : Ops) (s : Store) (low high p : ℕ) → (16 ≤ made-handle o s low high p) × (made-handle o s low high p ≤ handle p + 1) × (place (made-handle o s low high p) ≡ p)
 made-place o s low high p =
     cond-both (turns o s low high) (handle p + 1) (handle p) (λ h. (16 ≤ h) × (h ≤ handle p + 1) × (place h ≡ p))
     (λ _. (omega arith, omega arith, place-marked p)) (λ _. (omega arith, omega arith, place-handle p))
@@ -108,7 +109,7 @@ made-same o s i low high sound l e =
       means = λ q k. sym (cond-both (eqb (bit (s .inputs) q i) 1) high low (λ x. value o s x q ≡ value o s low q) (λ _. ap (λ x. value o s x q) (sym e)) (λ _. refl));
     }
 
-module _ {o : Ops} (laws : Laws o) {s : Store} (w : Well s) (sound : Sound o s) {i low high : ℕ} (sides : Sides s i low high) (low-lawful : Lawful o s low) (high-lawful : Lawful o s high) where
+module _ {o : Ops} (laws : Laws o) {s : Store} (w : Well s) (sound : Sound o s) {i low high : ℕ} (sides : Fits s i low high) (low-lawful : Lawful o s low) (high-lawful : Lawful o s high) where
   few-low : (q : ℕ) → value o s low q < o .count
   few-low q = codes laws w sound low q low-lawful
 

@@ -3,6 +3,8 @@ pub mod Rules
 pub mod Counts
 pub mod Changes
 pub mod Marks
+pub mod Codes
+pub mod Makings
 pub mod Canonical
 pub mod Buckets
 pub mod Keys
@@ -17,3 +19,4 @@ pub mod Faults
 pub mod Outcomes
 pub mod Runs
 pub mod Supports
+pub mod Walks

@@ -1,15 +1,13 @@
 -- NOT of handles, the reach of a handle, and the record that is kept for an input and two sides. Assumes nothing.
-use mathlib.Core.Path.{_≡_}
 use mathlib.Core.Bool.{Bool, cond, not, _&&_}
-use Prim.Native.Nat.{ℕ, zero, suc, _+_, _-_, _^_, _<_}
+use Prim.Native.Nat.{ℕ, zero, suc, _+_, _-_, _^_}
 use lib.Bits.{bitOr}
 use lib.Dec.{eqb, ltb}
 use Rattle.algebra.specs.Ops.{Ops}
-use Rattle.netlist.specs.Signals.{bit}
+use Rattle.netlist.specs.Signals.{Signal, Agree, bit}
 use Rattle.diagram.specs.declared.record.Record.{Record}
-use Rattle.diagram.specs.Stores.{Store, handle, place, marked, level, side, value, up}
+use Rattle.diagram.specs.Stores.{Store, handle, place, marked, side, value, up}
 use Rattle.diagram.specs.Rules.{Sound, Lawful, firm-mask, may-mark}
-use Rattle.diagram.specs.Changes.{Within}
 
 -- the mark changed
 abbrev pub flipped : ℕ → ℕ
@@ -71,17 +69,12 @@ kept o s i low high = record { input = i; low = kept-low o s low high; high = ke
 abbrev pub made-handle : Ops → Store → ℕ → ℕ → ℕ → ℕ
 made-handle o s low high p = cond (turns o s low high) (handle p + 1) (handle p)
 
--- what is asked of the sides of a record that tests input i
-pub record Sides (s : Store) (i low high : ℕ) : Type 0 where
-  pub inside : i < s .inputs
-  pub low-within : Within s low
-  pub high-within : Within s high
-  pub low-deeper : i < level s low
-  pub high-deeper : i < level s high
-  pub differ : low ≡ high → ⊥
+-- low where i's bit is down, and high where it is up
+abbrev pub choice : Ops → Store → ℕ → ℕ → ℕ → Signal
+choice o s i low high = λ q. value o s (cond (eqb (bit (s .inputs) q i) 1) high low) q
 
--- h tests input i: it is low where i's bit is down, and high where it is up
+-- h tests input i: it is the choice between its sides
 pub record Made (o : Ops) (s t : Store) (i low high h : ℕ) : Type 0 where
   pub sound : Sound o t
   pub lawful : Lawful o t h
-  pub means : (q : ℕ) → q < 2 ^ s .inputs → value o t h q ≡ value o s (cond (eqb (bit (s .inputs) q i) 1) high low) q
+  pub means : Agree (s .inputs) (value o t h) (choice o s i low high)

@@ -12,7 +12,7 @@ use Rattle.netlist.specs.Signals.{Signal, Agree}
 use Rattle.netlist.specs.Parts.{part-count}
 use Rattle.diagram.specs.declared.fault.TableFault.{TableFault}
 use Rattle.diagram.specs.declared.fault.TableFault.the-variants.{TooManyInputs, FewRows, NoSuchHandle, NoSuchInput, NoSuchCode, NoSuchOperator, NoSuchPattern, Full}
-use Rattle.diagram.specs.Stores.{Store, handle, value}
+use Rattle.diagram.specs.Stores.{Store, store, handle, value}
 use Rattle.diagram.specs.Rules.{Sound, Lawful}
 use Rattle.diagram.specs.Changes.{Within, Grows}
 use Rattle.diagram.specs.Steps.{Back}
@@ -26,6 +26,12 @@ pub record Stopped (s t : Store) (P Q : Pairs) (refusal : Option TableFault) (f 
   pub why : refusal ≡ Some f
   pub table : t ≡ s
   pub memo : Q ≡ P
+
+-- the table has n inputs and no place in use, and the memo no pair
+pub record Begun (n : ℕ) (t : Store) (Q : Pairs) (refusal : Option TableFault) : Type 0 where
+  pub passed : refusal ≡ None
+  pub table : t ≡ store n []
+  pub memo : No-pairs Q
 
 -- every test passed, and the table was full: it is cut back, and the memo is cleared
 pub record Cut-back (s t : Store) (Q : Pairs) (refusal : Option TableFault) (f : TableFault) : Type 0 where

@@ -20,6 +20,10 @@ pub enum TableFault {
     Full,
 }
 
+// No place is left.
+#[derive(Clone, Copy)]
+pub(crate) struct Full;
+
 impl TableFault {
     // The number of the refusal.
     pub fn number(self) -> u8

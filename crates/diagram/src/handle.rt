@@ -1,6 +1,7 @@
 // Handles: 0 to 15 are constants, place p has handle 16 + 2 p, and one more with a mark.
 ghost use mathlib.Core.Path.{_≡_};
-ghost use Prim.Native.Nat.{_≤_};
+ghost use mathlib.Core.Bool.{cond};
+ghost use Prim.Native.Nat.{_+_, _≤_};
 ghost use lib.Dec.{ltb};
 ghost use Rattle.diagram.specs.Stores.{handle, place, marked};
 
@@ -34,4 +35,12 @@ pub(crate) fn handle_of(p: usize) -> u32
     ensures { λ r. ⌜ r ≡ handle p ⌝ }
 {
     FIRST_PLACE + 2 * p as u32
+}
+
+// The handle of a place, with a mark or without.
+pub(crate) fn handle_with(p: usize, mark: bool) -> u32
+    requires { ⌜ p ≤ 1048576 ⌝ }
+    ensures { λ r. ⌜ r ≡ cond mark (handle p + 1) (handle p) ⌝ }
+{
+    if mark { handle_of(p) + 1 } else { handle_of(p) }
 }

@@ -1,4 +1,6 @@
 // Shared decision diagrams of signals: records with NOT marks, one handle for one signal.
+mod calls;
+mod codes;
 mod fault;
 mod handle;
 mod hash;
@@ -11,6 +13,7 @@ mod row;
 mod rows;
 mod table;
 mod theorems;
+mod walk;
 
 pub use fault::TableFault;
 pub use memo::Memo;

@@ -5,7 +5,10 @@ use crate::places::Places;
 
 mod changes;
 mod counts;
+mod making;
+mod marks;
 mod reads;
+mod splits;
 
 // A table of records over some number of inputs. Its shape needs no algebra: sides differ and lie deeper and before
 // their record, and no key stands twice.
