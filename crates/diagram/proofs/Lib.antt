@@ -22,7 +22,6 @@ pub mod Links
 pub mod Held
 pub mod Shapes
 pub mod Epochs
-pub mod MaskLoops
 pub mod Lookups
 pub mod Finds
 pub mod Matter
