@@ -4,6 +4,7 @@ use native.Mathlib.Omega.{arith}
 use borrow.Author.Needs.{needs}
 use lib.ListN.{length}
 use Rattle.std.proofs.shelf.Tests.{ltb-true}
+use Rattle.std.proofs.shelf.Ways.{when-true}
 use Rattle.diagram.specs.Makings.{From}
 use Rattle.diagram.specs.Marks.{reach-of}
 use Rattle.diagram.specs.Rules.{settled-mask}
@@ -53,7 +54,7 @@ pub returns-then-is-from : need.returns-then-is-from
 returns-then-is-from g t c =
     let o = g .G·Algebra .ops in
     let s = view (c .args .table .now) in
-    let r : From s (c .cut .result .input) (c .in-Some .h) = search needs in
+    let r : From s (c .cut .result .input) (c .in-Some .h) = when-true _ (Unit {0}) (c .if-is-from .taken) (c .is-from .ensures) in
     record {
       grows = grows-refl s;
       room = refl;
