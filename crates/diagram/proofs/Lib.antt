@@ -28,7 +28,6 @@ pub mod Grades
 pub mod Events
 pub mod Laying
 pub mod Comparing
-pub mod MaskLoops
 pub mod Lookups
 pub mod Finds
 pub mod Matter

@@ -1,29 +1,30 @@
 -- Which inputs matter to a handle: those that the records below it test. Assumes nothing.
 use mathlib.Core.Path.{_≡_, refl, sym, ap, subst, _∙_}
-use mathlib.Core.Bool.{true, false, not}
+use mathlib.Core.Bool.{Bool, true, false, cond, not, _||_}
 use mathlib.Core.List.{List}
 use mathlib.Core.Logic.{_⊎_, inl, inr, ⊎-elim}
-use Prim.Native.Nat.{ℕ, suc, _+_, _-_, _*_, _/_, _%_, _^_, _<_, _≤_}
+use Prim.Native.Nat.{ℕ, zero, suc, _+_, _-_, _*_, _/_, _%_, _^_, _<_, _≤_}
 use native.Mathlib.Omega.{arith}
 use lib.Bits.{bitOr}
 use lib.Dec.{eqb}
 use lib.ListN.{length, getD, set, length-set}
 use lib.Pow.{ones-split, ones-lt}
-use Rattle.std.proofs.shelf.Bits.{pow-add, pow-pos, shr-shr, shr-high, one-shl}
+use Rattle.std.proofs.shelf.Bits.{pow-add, pow-pos, pow-below, or-lt, shr-shr, shr-high, one-shl}
 use Rattle.std.proofs.shelf.Lists.{getD-set-same, getD-set-other}
-use Rattle.std.proofs.shelf.Tests.{cases-lt, cases-eq, eq-eqb, eqb-true, not-false, not-true, eqb-false, both-ways}
+use Rattle.std.proofs.shelf.Tests.{cases-lt, cases-eq, cases-bool, eq-eqb, ne-eqb, eqb-true, eqb-false, not-true, not-false, not-from-true, not-from-false, or-parts, or-cases, or-left, or-right, or-from, cond-true, cond-false, cond-both, both-ways}
 use Rattle.algebra.specs.Ops.{Ops}
 use Rattle.algebra.specs.Laws.{Laws}
+use Rattle.netlist.specs.Parts.{all-below}
 use Rattle.netlist.specs.Signals.{Signal, bit}
 use Rattle.diagram.specs.declared.record.Record.{Record}
 use Rattle.diagram.specs.declared.row.Row.{Row}
 use Rattle.diagram.specs.Stores.{Store, handle, place, level, side, under-mark, value, up}
 use Rattle.diagram.specs.Rules.{Placed, Well, Sound, Lawful}
 use Rattle.diagram.specs.Changes.{Within}
-use Rattle.diagram.specs.Supports.{Matters, Support, Covers, More, Collected, All-done, done-at}
+use Rattle.diagram.specs.Supports.{same-but, matters, mask-below, support-of, Matters, Covers, More, Collected, All-done, done-at}
 use Rattle.diagram.proofs.Bits.{with-bit, with-bit-below, with-bit-here, with-bit-other, same-bits}
 use Rattle.diagram.proofs.Values.{side-up, side-down, side-before, side-deeper, level-place, lawful-place, lawful-within, value-constant, value-handle, value-under, ignores}
-use Rattle.diagram.proofs.Masks.{seek}
+use Rattle.diagram.proofs.Masks.{all-at, all-from, all-fails, seek}
 use Rattle.diagram.proofs.Canon.{bare-value, one-number}
 use Rattle.diagram.proofs.Reaches.{up-none, up-one, up-only, up-union-left, up-union-right, up-union-cases}
 use Rattle.diagram.proofs.Shapes.{place-below}
@@ -274,7 +275,109 @@ done-set s m rows k row l done c j d =
     (λ ne. subst (Covers s m) (sym (ap (λ x. x .low) (getD-set-other rows k j row no-row ne))) (done j less))
     (cases-eq j k)
 
+-- The computed mask.
+
+module _ (n : ℕ) (f : Signal) (i : ℕ) where
+  apart-tests : ℕ → ℕ → Bool
+  apart-tests p q = not (same-but n i p q) || eqb (f p) (f q)
+
+  pub matters-found : matters n f i ≡ true → Matters n f i
+  unfolding apart-tests
+  matters-found e =
+      let some = all-fails (2 ^ n) (λ p. all-below (2 ^ n) (apart-tests p)) (not-true (all-below (2 ^ n) (λ p. all-below (2 ^ n) (apart-tests p))) e) in
+      let p = some .0 in
+      let pair = all-fails (2 ^ n) (apart-tests p) (some .2) in
+      let q = pair .0 in
+      let parts = or-parts (not (same-but n i p q)) (eqb (f p) (f q)) (pair .2) in
+      let same = not-false (same-but n i p q) (parts .0) in
+      record {
+        one = p;
+        other = q;
+        one-within = some .1;
+        other-within = pair .1;
+        elsewhere = λ j l ne.
+            ⊎-elim
+            (λ here. absurd (ne (eqb-true j i here)))
+            (λ alike. eqb-true (bit n p j) (bit n q j) alike)
+            (or-cases (eqb j i) (eqb (bit n p j) (bit n q j)) (all-at n (λ j. eqb j i || eqb (bit n p j) (bit n q j)) same j l));
+        differ = eqb-false (f p) (f q) (parts .1);
+      }
+
+  pub found-matters : Matters n f i → matters n f i ≡ true
+  unfolding apart-tests
+  found-matters m =
+      let p = m .one in
+      let q = m .other in
+      let all = all-below (2 ^ n) (λ p. all-below (2 ^ n) (apart-tests p)) in
+      let same : same-but n i p q ≡ true = all-from n (λ j. eqb j i || eqb (bit n p j) (bit n q j))
+      (λ j l. ⊎-elim
+      (λ e. or-left (eqb j i) (eqb (bit n p j) (bit n q j)) (eq-eqb j i e))
+      (λ ne. or-right (eqb j i) (eqb (bit n p j) (bit n q j)) (eq-eqb (bit n p j) (bit n q j) (m .elsewhere j l ne)))
+      (cases-eq j i)) in
+      not-from-false all
+      (⊎-elim
+      (λ e. absurd
+      (both-ways (apart-tests p q)
+      (or-from (not (same-but n i p q)) (eqb (f p) (f q)) (not-from-true (same-but n i p q) same) (ne-eqb (f p) (f q) (m .differ)))
+      (all-at (2 ^ n) (apart-tests p) (all-at (2 ^ n) (λ p. all-below (2 ^ n) (apart-tests p)) e p (m .one-within)) q (m .other-within))))
+      (λ e. e)
+      (cases-bool all))
+
+module _ (t : ℕ → Bool) where
+  masked : (m i : ℕ) → i < m → t i ≡ true → up (mask-below t m) i ≡ true
+  unfolding mask-below
+  masked zero i l e = absurd (omega arith)
+  masked (suc m) i l e =
+      let rest = mask-below t m in
+      ⊎-elim
+      (λ c. cond-both (t m) (bitOr rest (2 ^ m)) rest (λ x. up x i ≡ true) (λ _. up-union-left rest (2 ^ m) i (masked m i c e)) (λ _. masked m i c e))
+      (λ c.
+      let last : i ≡ m = omega arith in
+      ap (λ x. up x i) (cond-true (t m) (bitOr rest (2 ^ m)) rest (ap t (sym last) ∙ e))
+      ∙ up-union-right rest (2 ^ m) i (ap (up (2 ^ m)) last ∙ up-one m))
+      (cases-lt i m)
+
+  unmasked : (m i : ℕ) → up (mask-below t m) i ≡ true → t i ≡ true
+  unfolding mask-below
+  unmasked zero i e = absurd (both-ways (up 0 i) (up-none i) e)
+  unmasked (suc m) i e =
+      let rest = mask-below t m in
+      ⊎-elim
+      (λ c. ⊎-elim (unmasked m i) (λ d. ap t (up-only m i d) ∙ c) (up-union-cases rest (2 ^ m) i (ap (λ x. up x i) (sym (cond-true (t m) (bitOr rest (2 ^ m)) rest c)) ∙ e)))
+      (λ c. unmasked m i (ap (λ x. up x i) (sym (cond-false (t m) (bitOr rest (2 ^ m)) rest c)) ∙ e))
+      (cases-bool (t m))
+
+  mask-fits : (m k : ℕ) → m ≤ k → mask-below t m < 2 ^ k
+  unfolding mask-below
+  mask-fits zero k l = pow-pos k
+  mask-fits (suc m) k l =
+      let less : m < k = omega arith in
+      let rest = mask-fits m k (omega arith) in
+      cond-both (t m) (bitOr (mask-below t m) (2 ^ m)) (mask-below t m) (λ x. x < 2 ^ k) (λ _. or-lt k (mask-below t m) (2 ^ m) rest (pow-below m k less)) (λ _. rest)
+
+-- two masks with the same bits are one
+same-digit : (x y : ℕ) → x < 2 → y < 2 → (eqb x 1 ≡ true → eqb y 1 ≡ true) → (eqb y 1 ≡ true → eqb x 1 ≡ true) → x ≡ y
+same-digit x y l m there back =
+    ⊎-elim
+    (λ c. ⊎-elim
+    (λ d. omega arith)
+    (λ d. absurd (let one = eqb-true x 1 (back (eq-eqb y 1 (omega arith))) in omega arith))
+    (cases-lt y 1))
+    (λ c. let one = eqb-true y 1 (there (eq-eqb x 1 (omega arith))) in omega arith)
+    (cases-lt x 1)
+
+same-mask : (k l m : ℕ) → l < 2 ^ k → m < 2 ^ k → More l m → More m l → l ≡ m
+same-mask k l m a b there back =
+    same-bits k l m a b
+    (λ i d. let j = k - 1 - i in same-digit ((l / 2 ^ j) % 2) ((m / 2 ^ j) % 2) (omega arith) (omega arith) (there j) (back j))
+
 -- from the empty mask, under the rules
-pub support-decides : {o : Ops} → Laws o → {s : Store} → Sound o s → (h m : ℕ) → Lawful o s h → Collected s h 0 m → Support (s .inputs) (value o s h) m
-support-decides {o} laws {s} sound h m l c i =
-    (λ e. ⊎-elim (λ none. absurd (both-ways (up 0 i) (up-none i) none)) (λ y. y) (c .only o laws sound l i e), λ y. c .covers o i y)
+pub support-is : {o : Ops} → Laws o → {s : Store} → Well s → Sound o s → (h m : ℕ) → Lawful o s h → m < 2 ^ 64 → Collected s h 0 m → m ≡ support-of (s .inputs) (value o s h)
+support-is {o} laws {s} w sound h m l fits c =
+    let n = s .inputs in
+    let f = value o s h in
+    same-mask 64 m (support-of n f) fits (mask-fits (matters n f) n 64 (omega (arith, w .few)))
+    (λ i e.
+    let y : Matters n f i = ⊎-elim (λ none. absurd (both-ways (up 0 i) (up-none i) none)) (λ y. y) (c .only o laws sound l i e) in
+    masked (matters n f) n i (matters-inside n f i y) (found-matters n f i y))
+    (λ i e. c .covers o i (matters-found n f i (unmasked (matters n f) n i e)))

@@ -4,7 +4,6 @@ mod codes;
 mod fault;
 mod handle;
 mod hash;
-mod lawful;
 mod memo;
 mod places;
 mod readings;

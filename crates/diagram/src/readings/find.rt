@@ -12,9 +12,9 @@ ghost use Rattle.diagram.specs.Rules.{Sound, Lawful, Occurs};
 ghost use Rattle.diagram.specs.Stores.{level, value, up};
 ghost use Rattle.diagram.specs.Views.{view};
 use super::under_mark;
+use crate::codes::is_up;
 use crate::fault::TableFault;
 use crate::handle::is_constant;
-use crate::lawful::is_up;
 use crate::table::Table;
 use algebra::Algebra;
 
@@ -41,7 +41,7 @@ impl Table {
         }
         let record = self.record_of(h);
         let below = under_mark(algebra, h, wanted);
-        if is_up(self.reach_in_use(algebra, record.low), below) {
+        if is_up(self.reach_of(algebra, record.low), below) {
             return self.first_in_use(algebra, record.low, below);
         }
         let rest = self.first_in_use(algebra, record.high, below);
@@ -68,7 +68,7 @@ impl Table {
         if wanted >= algebra.value_count() {
             return Err(TableFault::NoSuchCode);
         }
-        if !is_up(self.reach_in_use(algebra, h), wanted) {
+        if !is_up(self.reach_of(algebra, h), wanted) {
             return Ok(None);
         }
         Ok(Some(self.first_in_use(algebra, h, wanted)))

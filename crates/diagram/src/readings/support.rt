@@ -5,10 +5,10 @@ ghost use lib.ListN.{length};
 ghost use Rattle.std.specs.Results.{isErr};
 ghost use Rattle.std.specs.Vec.{made};
 ghost use Rattle.diagram.specs.Changes.{Within};
-ghost use Rattle.diagram.specs.Faults.{support-refusal, refusal-of};
+ghost use Rattle.diagram.specs.Faults.{support-refusal, refusal-of, unless-refused};
 ghost use Rattle.diagram.specs.Rules.{Sound};
 ghost use Rattle.diagram.specs.Stores.{value, up};
-ghost use Rattle.diagram.specs.Supports.{Support, Covers, Collected, All-done, done-at};
+ghost use Rattle.diagram.specs.Supports.{support-of, Covers, Collected, All-done, done-at};
 ghost use Rattle.diagram.specs.Views.{view};
 use crate::fault::TableFault;
 use crate::handle::handle_of;
@@ -100,7 +100,7 @@ impl Table {
         ensures kept { λ r. ⌜ (isErr r ≡ true → now (rows .exit) ≡ now (rows .entry)) ⌝ }
         ensures covers { λ r. ⌜ made r (λ m. Covers (view (now (self .entry))) m h) ⌝ }
         ensures meaning { λ r. ⌜ (Sound ops (view (now (self .entry)))
-            → made r (λ m. Support (view (now (self .entry)) .inputs) (value ops (view (now (self .entry))) h) m)) ⌝ }
+            → r ≡ unless-refused (support-refusal ops (view (now (self .entry))) (length (now (rows .entry))) h) (support-of (view (now (self .entry)) .inputs) (value ops (view (now (self .entry))) h))) ⌝ }
     {
         if rows.len() <= self.inputs() as usize {
             return Err(TableFault::FewRows);
