@@ -79,3 +79,84 @@ pub fn inputs_limit(rt: &LibcRuntime) -> Result<(), AnyError> {
     }
     Ok(())
 }
+
+// IF `when` THEN `then` ELSE `other`, by two gates of IFAND under an IFOR.
+fn choose<M: Memo>(
+    table: &mut Table,
+    memo: &mut M,
+    rows: &mut [Row],
+    when: u32,
+    then: u32,
+    other: u32,
+) -> u32 {
+    let not_when = or_none(table.turn(&FiveValued, memo, rows, when));
+    let yes = or_none(table.join(&FiveValued, memo, rows, IFAND, when, then));
+    let no = or_none(table.join(&FiveValued, memo, rows, IFAND, not_when, other));
+    or_none(table.join(&FiveValued, memo, rows, IFOR, yes, no))
+}
+
+// Over inputs a, b, c: S if a and b are 0, X if only a is 0, c if a is 1. It is one place above the place of its part
+// "X if b, else S" and that of c, and its NOT takes no place.
+pub fn three_parts(rt: &LibcRuntime) -> Result<(), AnyError> {
+    let mut table = Table::new(rt.alloc(), 64)?;
+    let mut memo = RowMemo::new(rt.alloc(), 8)?;
+    let mut rows = [FRAME; 4];
+    let _ = table.start(&mut memo, 3);
+    let a = or_none(table.input(&FiveValued, &mut memo, 0));
+    let b = or_none(table.input(&FiveValued, &mut memo, 1));
+    let c = or_none(table.input(&FiveValued, &mut memo, 2));
+    let inner = choose(&mut table, &mut memo, &mut rows, b, X, S);
+    let sample = choose(&mut table, &mut memo, &mut rows, a, c, inner);
+    let before = table.used();
+    let turned = table.turn(&FiveValued, &mut memo, &mut rows, sample);
+    let after = table.used();
+    println!(rt, "the sample: handle {sample}, its NOT: {}", Told(turned))?;
+    println!(rt, "places in use before the NOT and after: {before} and {after}")?;
+    Ok(())
+}
+
+// NOT NOT of a floating wire is unknown.
+pub fn floating_turned(rt: &LibcRuntime) -> Result<(), AnyError> {
+    let mut table = Table::new(rt.alloc(), 64)?;
+    let mut memo = RowMemo::new(rt.alloc(), 8)?;
+    let mut rows = [FRAME; 2];
+    let _ = table.start(&mut memo, 1);
+    let once = table.turn(&FiveValued, &mut memo, &mut rows, Z);
+    let twice = table.turn(&FiveValued, &mut memo, &mut rows, or_none(once));
+    println!(rt, "NOT of a floating wire: {}, NOT NOT: {}", Told(once), Told(twice))?;
+    let a = or_none(table.input(&FiveValued, &mut memo, 0));
+    let driven = or_none(table.join(&FiveValued, &mut memo, &mut rows, IFAND, a, Z));
+    let back = or_none(table.turn(&FiveValued, &mut memo, &mut rows, driven));
+    let again = or_none(table.turn(&FiveValued, &mut memo, &mut rows, back));
+    println!(rt, "Z where an input is up: handle {driven}, turned {back}, turned again {again}")?;
+    Ok(())
+}
+
+// The finding of two drivers on a bus against a gate that takes the floating bus for 1, with some memo.
+fn bus_finding<M: Memo>(rt: &LibcRuntime, memo: &mut M) -> Result<Finding, AnyError> {
+    let mut table = Table::new(rt.alloc(), 64)?;
+    let mut rows = [FRAME; 4];
+    let _ = table.start(memo, 3);
+    let enable = or_none(table.input(&FiveValued, memo, 0));
+    let one = or_none(table.input(&FiveValued, memo, 1));
+    let two = or_none(table.input(&FiveValued, memo, 2));
+    let first = choose(&mut table, memo, &mut rows, enable, one, Z);
+    let both = or_none(table.join(&FiveValued, memo, &mut rows, AND, enable, two));
+    let second = choose(&mut table, memo, &mut rows, both, Z, Z);
+    let bus = or_none(table.join(&FiveValued, memo, &mut rows, WIRE, first, second));
+    let gates = choose(&mut table, memo, &mut rows, enable, one, 1);
+    match check(&mut table, &FiveValued, memo, &mut rows, bus, gates) {
+        Ok(checked) => Ok(checked.finding),
+        Err(_) => Err("refused".into()),
+    }
+}
+
+// A memo that keeps none and one of 256 rows give the same finding.
+pub fn memos_agree(rt: &LibcRuntime) -> Result<(), AnyError> {
+    let mut rows_memo = RowMemo::new(rt.alloc(), 8)?;
+    let kept = bus_finding(rt, &mut rows_memo)?;
+    let forgotten = bus_finding(rt, &mut NoMemo)?;
+    println!(rt, "with a memo of 256 rows: {}", Found(kept))?;
+    println!(rt, "with a memo that keeps none: {}", Found(forgotten))?;
+    Ok(())
+}
