@@ -47,7 +47,7 @@ fn or_none(told: Result<u32, TableFault>) -> u32 {
 }
 
 // Two values and two places: both inputs fill them, so their AND is told full; an input AND its NOT still is 0.
-pub fn two_places(rt: &LibcRuntime) -> Result<(), AnyError> {
+pub(crate) fn two_places(rt: &LibcRuntime) -> Result<(), AnyError> {
     let mut table = Table::new(rt.alloc(), 2)?;
     let mut memo = RowMemo::new(rt.alloc(), 8)?;
     let mut rows = [FRAME; 3];
@@ -65,7 +65,7 @@ pub fn two_places(rt: &LibcRuntime) -> Result<(), AnyError> {
 }
 
 // 60 inputs start, 61 are refused.
-pub fn inputs_limit(rt: &LibcRuntime) -> Result<(), AnyError> {
+pub(crate) fn inputs_limit(rt: &LibcRuntime) -> Result<(), AnyError> {
     let mut table = Table::new(rt.alloc(), 2)?;
     let mut memo = NoMemo;
     for inputs in 60..62u8 {
@@ -97,7 +97,7 @@ fn choose<M: Memo>(
 
 // Over inputs a, b, c: S if a and b are 0, X if only a is 0, c if a is 1. It is one place above the place of its part
 // "X if b, else S" and that of c, and its NOT takes no place.
-pub fn three_parts(rt: &LibcRuntime) -> Result<(), AnyError> {
+pub(crate) fn three_parts(rt: &LibcRuntime) -> Result<(), AnyError> {
     let mut table = Table::new(rt.alloc(), 64)?;
     let mut memo = RowMemo::new(rt.alloc(), 8)?;
     let mut rows = [FRAME; 4];
@@ -116,7 +116,7 @@ pub fn three_parts(rt: &LibcRuntime) -> Result<(), AnyError> {
 }
 
 // NOT NOT of a floating wire is unknown.
-pub fn floating_turned(rt: &LibcRuntime) -> Result<(), AnyError> {
+pub(crate) fn floating_turned(rt: &LibcRuntime) -> Result<(), AnyError> {
     let mut table = Table::new(rt.alloc(), 64)?;
     let mut memo = RowMemo::new(rt.alloc(), 8)?;
     let mut rows = [FRAME; 2];
@@ -152,7 +152,7 @@ fn bus_finding<M: Memo>(rt: &LibcRuntime, memo: &mut M) -> Result<Finding, AnyEr
 }
 
 // A memo that keeps none and one of 256 rows give the same finding.
-pub fn memos_agree(rt: &LibcRuntime) -> Result<(), AnyError> {
+pub(crate) fn memos_agree(rt: &LibcRuntime) -> Result<(), AnyError> {
     let mut rows_memo = RowMemo::new(rt.alloc(), 8)?;
     let kept = bus_finding(rt, &mut rows_memo)?;
     let forgotten = bus_finding(rt, &mut NoMemo)?;
