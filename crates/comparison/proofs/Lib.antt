@@ -1,3 +1,4 @@
 pub mod Gravest
 pub mod Checks
 pub mod Lines
+pub mod Layings

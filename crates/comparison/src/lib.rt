@@ -11,3 +11,4 @@ pub use fault::LayFault;
 pub use fault::LineReason;
 pub use fault::LineRefusal;
 pub use fault::PairRefusal;
+pub use laying::lay;
