@@ -13,7 +13,8 @@ use Rattle.diagram.proofs.Laying.{kept-lay-none}
 use Rattle.comparison.specs.declared.fault.LayFault.the-variants.{Line as AtLine}
 use Rattle.comparison.specs.Lays.{Line-kept, Lined, Laid, reason-answer, line-answer, lay-answers}
 use Rattle.netlist.specs.declared.line.Line.{Line}
-use Rattle.comparison.proofs.Layings.{blank-line, laying-none, laying-more, line-refused, refused-answered, laid-all, all-kept, line-ok, line-err}
+use Rattle.comparison.specs.Compares.{blank-line}
+use Rattle.comparison.proofs.Layings.{laying-none, laying-more, line-refused, refused-answered, laid-all, all-kept, line-ok, line-err}
 use Rattle.comparison.proofs.laying.lay.Needs as need
 
 pub returns-then-handles-lines : need.returns-then-handles-lines
