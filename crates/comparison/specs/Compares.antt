@@ -52,7 +52,7 @@ pairs-event ls ms hs ks cs (Ok _) = compare ls ms (map told hs) (map told ks) (m
 pairs-event ls ms hs ks cs (Err e) =
     compare ls ms (map told hs) (map told ks) (map told (row-handles (take (e .pair) cs)) ++ answer-of (Err (e .fault)) ∷ []) (row-findings (take (e .pair) cs))
 
--- what checking all pairs leaves: rows before a refused pair are written
-abbrev pub Pairs-checked : Store → Store → List Checked → List Checked → Result (Unit {0}) PairRefusal → Type 0
-Pairs-checked s t old new (Ok _) = Grows s t
-Pairs-checked s t old new (Err e) = Grows s t × (e .pair < length old) × Table-refuses (e .fault) × (drop (e .pair) new ≡ drop (e .pair) old)
+-- what checking all pairs of lines with the handles hs leaves: rows before a refused pair are written
+abbrev pub Pairs-checked : Ops → Store → Store → List ℕ → List Checked → List Checked → Result (Unit {0}) PairRefusal → Type 0
+Pairs-checked o s t hs old new (Ok _) = Grows s t
+Pairs-checked o s t hs old new (Err e) = Grows s t × (e .pair < length old) × Table-refuses o t hs (e .fault) × (drop (e .pair) new ≡ drop (e .pair) old)
