@@ -29,10 +29,6 @@ use Rattle.comparison.specs.declared.fault.LineRefusal.{LineRefusal}
 use Rattle.comparison.specs.Faults.{at-line}
 use Rattle.comparison.specs.Lays.{Line-kept, Lined, reason-answer, lay-answers, Refused-line, Written, Laid}
 
--- what stands past the end of a list of lines
-abbrev pub blank-line : Line
-blank-line = record { kind = 0; first = 0; second = 0 }
-
 -- the first k lines are laid
 pub record Laying (o : Ops) (room : ℕ) (s t : Store) (P Q : Pairs) (ls : List Line) (old new : List ℕ) (k : ℕ) : Type 0 where
   pub inside : k ≤ length ls
@@ -52,7 +48,7 @@ laying-none laws {s} w room P ls old = record {
 pub refused-kept : {o : Ops} → Laws o → {s : Store} → Well s → {room : ℕ} → s .used ≤ room → (P : Pairs) (hs : List ℕ) (l : Line) → Line-kept o room s s P P hs l refused
 refused-kept laws w fits P hs l run ls h here = kept-refused-line laws w fits P run ls hs h
 
-back-grows : {s t : Store} → Back s (s .used) t → Grows s t
+pub back-grows : {s t : Store} → Back s (s .used) t → Grows s t
 back-grows back = record { inputs = back .inputs; more = let e = back .used in omega arith; same = back .same }
 
 module _ {o : Ops} {room : ℕ} {s t : Store} {P Q : Pairs} {ls : List Line} {old new : List ℕ} {k : ℕ} (laying : Laying o room s t P Q ls old new k) (l : Line) (h : k < length ls) (here : l ≡ getD ls k l) (long : length ls ≤ length new) (u : Store) (R : Pairs) where
@@ -83,7 +79,7 @@ module _ {o : Ops} {room : ℕ} {s t : Store} {P Q : Pairs} {ls : List Line} {ol
   }
 
   -- a refused line
-  pub line-refused : (f : LineReason) → Lined o t u Q R k l (Err f) → Refused-line o (s .inputs) ls k f × Written s u old new k
+  pub line-refused : (f : LineReason) → Lined o t u Q R (take k new) k l (Err f) → Refused-line o (s .inputs) ls u (take k new) k f × Written s u old new k
   line-refused (OfLine f) lined = (
     laying .passed ∙ fault-found o (s .inputs) ls k l f h here (ap (λ n. line-fault o n k l) (sym same-inputs) ∙ lined .0),
     subst (λ v. Written s v old new k) (sym (lined .1)) (laying .written),

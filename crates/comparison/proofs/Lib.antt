@@ -2,3 +2,4 @@ pub mod Gravest
 pub mod Checks
 pub mod Lines
 pub mod Layings
+pub mod Pairings

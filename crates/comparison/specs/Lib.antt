@@ -2,3 +2,4 @@ pub mod Gradings
 pub mod Checks
 pub mod Faults
 pub mod Lays
+pub mod Compares

@@ -3,6 +3,7 @@ mod checking;
 mod fault;
 mod grading;
 mod laying;
+mod pairing;
 
 pub use checking::Checked;
 pub use checking::check;

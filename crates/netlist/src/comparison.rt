@@ -30,7 +30,8 @@ use algebra::Op;
 
 const OUT: u8 = 8;
 
-fn count_outs(lines: &[Line]) -> usize
+// How many OUT lines there are.
+pub fn count_outs(lines: &[Line]) -> usize
     ensures value { λ r. ⌜ r ≡ out-count (now (lines .entry)) ⌝ }
     ensures few { λ r. ⌜ r ≤ length (now (lines .entry)) ⌝ }
 {

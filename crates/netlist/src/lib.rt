@@ -11,6 +11,7 @@ mod pattern;
 pub use cases::worked_cases;
 pub use comparison::check_comparison;
 pub use comparison::compare_by_patterns;
+pub use comparison::count_outs;
 pub use evaluation::check_lines;
 pub use evaluation::evaluate;
 pub use evaluation::fault_of;
