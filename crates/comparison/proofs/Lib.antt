@@ -3,3 +3,4 @@ pub mod Checks
 pub mod Lines
 pub mod Layings
 pub mod Pairings
+pub mod Comparings

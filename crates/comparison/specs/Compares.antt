@@ -20,7 +20,11 @@ use Rattle.diagram.specs.Changes.{Grows}
 use Rattle.diagram.specs.Runs.{Answer, told, Event, compare, answer-of}
 use Rattle.comparison.specs.declared.checking.Checked.{Checked}
 use Rattle.comparison.specs.declared.fault.PairRefusal.{PairRefusal}
-use Rattle.comparison.specs.Lays.{Table-refuses}
+use Rattle.comparison.specs.declared.fault.LayFault.{LayFault}
+use Rattle.comparison.specs.declared.fault.LayFault.the-variants.{ShortList as ShortLines, Table as OfTable, Line as AtLine}
+use Rattle.comparison.specs.declared.fault.CompareFault.{CompareFault}
+use Rattle.comparison.specs.declared.fault.CompareFault.the-variants.{ShortList, FewFindings, OutCounts, Table, First, Second, Pair}
+use Rattle.comparison.specs.Lays.{Table-refuses, Refused-line, Written, lay-answers}
 
 -- what stands past the end of a list of lines
 abbrev pub blank-line : Line
@@ -56,3 +60,42 @@ pairs-event ls ms hs ks cs (Err e) =
 abbrev pub Pairs-checked : Ops → Store → Store → List ℕ → List Checked → List Checked → Result (Unit {0}) PairRefusal → Type 0
 Pairs-checked o s t hs old new (Ok _) = Grows s t
 Pairs-checked o s t hs old new (Err e) = Grows s t × (e .pair < length old) × Table-refuses o t hs (e .fault) × (drop (e .pair) new ≡ drop (e .pair) old)
+
+-- what the first and what the second netlist came to
+abbrev pub in-first : Result (Unit {0}) LayFault → Result (Unit {0}) CompareFault
+in-first (Ok x) = Ok x
+in-first (Err e) = Err (First e)
+
+abbrev pub in-second : Result (Unit {0}) LayFault → Result (Unit {0}) CompareFault
+in-second (Ok x) = Ok x
+in-second (Err e) = Err (Second e)
+
+-- the handles of the first netlist's lines are hs, those of the second's ks, and the pairs' rows are cs
+abbrev pub parts-event : List Line → List Line → List ℕ → List ℕ → List Checked → Result (Unit {0}) CompareFault → Event
+parts-event ls ms hs ks cs (Ok _) = pairs-event ls ms hs ks cs (Ok tt)
+parts-event ls ms hs ks cs (Err ShortList) = compare ls ms [] [] [] []
+parts-event ls ms hs ks cs (Err FewFindings) = compare ls ms [] [] [] []
+parts-event ls ms hs ks cs (Err OutCounts) = compare ls ms [] [] [] []
+parts-event ls ms hs ks cs (Err (Table f)) = compare ls ms [] [] [] []
+parts-event ls ms hs ks cs (Err (First e)) = compare ls ms (lay-answers ls hs (Err e)) [] [] []
+parts-event ls ms hs ks cs (Err (Second e)) = compare ls ms (map told hs) (lay-answers ms ks (Err e)) [] []
+parts-event ls ms hs ks cs (Err (Pair e)) = pairs-event ls ms hs ks cs (Err e)
+
+-- a netlist of which a line is refused
+abbrev pub Line-refused : Ops → Store → Store → List Line → List ℕ → List ℕ → LayFault → Type 0
+Line-refused o s t ls old new ShortLines = ⊥
+Line-refused o s t ls old new (OfTable f) = ⊥
+Line-refused o s t ls old new (AtLine e) = (e .line < length ls) × Refused-line o (s .inputs) ls t (take (e .line) new) (e .line) (e .fault) × Written s t old new (e .line)
+
+-- what comparing two netlists leaves, once the tests before the lines have passed: handles and rows before a refused line or
+-- pair are written, and the others are as before
+abbrev pub Parts-compared : Ops → Store → Store → List Line → List Line → List ℕ → List ℕ → List ℕ → List ℕ → List Checked → List Checked → Result (Unit {0}) CompareFault → Type 0
+Parts-compared o s t ls ms hs hs′ ks ks′ cs cs′ (Ok _) = (first-fault o (s .inputs) 0 ls ≡ None) × (first-fault o (s .inputs) 0 ms ≡ None) × Grows s t
+Parts-compared o s t ls ms hs hs′ ks ks′ cs cs′ (Err ShortList) = ⊥
+Parts-compared o s t ls ms hs hs′ ks ks′ cs cs′ (Err FewFindings) = ⊥
+Parts-compared o s t ls ms hs hs′ ks ks′ cs cs′ (Err OutCounts) = ⊥
+Parts-compared o s t ls ms hs hs′ ks ks′ cs cs′ (Err (Table f)) = ⊥
+Parts-compared o s t ls ms hs hs′ ks ks′ cs cs′ (Err (First e)) = Line-refused o s t ls hs hs′ e × (ks′ ≡ ks) × (cs′ ≡ cs)
+Parts-compared o s t ls ms hs hs′ ks ks′ cs cs′ (Err (Second e)) = (first-fault o (s .inputs) 0 ls ≡ None) × Line-refused o s t ms ks ks′ e × (cs′ ≡ cs)
+Parts-compared o s t ls ms hs hs′ ks ks′ cs cs′ (Err (Pair e)) =
+    (first-fault o (s .inputs) 0 ls ≡ None) × (first-fault o (s .inputs) 0 ms ≡ None) × Pairs-checked o s t (hs′ ++ ks′) cs cs′ (Err e)

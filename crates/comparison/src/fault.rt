@@ -1,6 +1,7 @@
 ghost use mathlib.Core.Path.{_≡_};
 ghost use Rattle.comparison.specs.declared.fault.LineReason.the-variants as reasons;
 ghost use Rattle.comparison.specs.declared.fault.LayFault.the-variants as lays;
+ghost use Rattle.comparison.specs.declared.fault.CompareFault.the-variants as compares;
 ghost use Rattle.comparison.specs.Faults.{line-reason-number, lay-fault-number, lay-fault-line, compare-fault-number, compare-fault-netlist, compare-fault-line, at-line};
 use diagram::TableFault;
 use netlist::LineFault;
@@ -149,5 +150,13 @@ impl CompareFault {
             CompareFault::Second(f) => f.line(),
             _ => None,
         }
+    }
+}
+
+pub impl From<PairRefusal> for CompareFault as CompareFromPair {
+    ghost converts = { λ e r. r ≡ compares.Pair e };
+
+    fn from(e: PairRefusal) -> CompareFault {
+        CompareFault::Pair(e)
     }
 }

@@ -1,5 +1,6 @@
 // Comparing netlists on a table of diagrams.
 mod checking;
+mod comparing;
 mod fault;
 mod grading;
 mod laying;
