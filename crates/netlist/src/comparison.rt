@@ -35,13 +35,13 @@ pub fn count_outs(lines: &[Line]) -> usize
     ensures value { λ r. ⌜ r ≡ out-count (now (lines .entry)) ⌝ }
     ensures few { λ r. ⌜ r ≤ length (now (lines .entry)) ⌝ }
 {
-    let mut count = 0;
+    let mut outs = 0;
     for line in lines {
         if line.kind == OUT {
-            count += 1;
+            outs += 1;
         }
     }
-    count
+    outs
 }
 
 // Moves the values of the OUT lines to the front, in order.
