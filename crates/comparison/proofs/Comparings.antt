@@ -67,7 +67,7 @@ pub refused-since : (o : Ops) (s t u : Store) (ls : List Line) (old new : List �
 refused-since o s t u ls old new grows ShortLines x = x
 refused-since o s t u ls old new grows (OfTable f) x = x
 refused-since o s t u ls old new grows (AtLine e) x =
-    (x .0, subst (λ n. Refused-line o n ls (e .line) (e .fault)) (grows .inputs) (x .1), record { grows = grows-trans grows (x .2 .grows); rest = x .2 .rest })
+    (x .0, subst (λ n. Refused-line o n ls u (take (e .line) new) (e .line) (e .fault)) (grows .inputs) (x .1), record { grows = grows-trans grows (x .2 .grows); rest = x .2 .rest })
 
 -- ---- the runs
 

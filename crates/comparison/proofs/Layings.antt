@@ -79,7 +79,7 @@ module _ {o : Ops} {room : ℕ} {s t : Store} {P Q : Pairs} {ls : List Line} {ol
   }
 
   -- a refused line
-  pub line-refused : (f : LineReason) → Lined o t u Q R k l (Err f) → Refused-line o (s .inputs) ls k f × Written s u old new k
+  pub line-refused : (f : LineReason) → Lined o t u Q R (take k new) k l (Err f) → Refused-line o (s .inputs) ls u (take k new) k f × Written s u old new k
   line-refused (OfLine f) lined = (
     laying .passed ∙ fault-found o (s .inputs) ls k l f h here (ap (λ n. line-fault o n k l) (sym same-inputs) ∙ lined .0),
     subst (λ v. Written s v old new k) (sym (lined .1)) (laying .written),

@@ -33,7 +33,7 @@ use Rattle.diagram.specs.Faults.{test, input-refusal, constant-refusal, turn-re
 use Rattle.diagram.specs.Outcomes.{Shape, Stopped, Cut-back, Meaning}
 use Rattle.diagram.specs.Runs.{told, answer-of, Run, lay, Kept}
 use Rattle.diagram.proofs.Laying.{kept-line, kept-out-line}
-use Rattle.comparison.specs.Lays.{Table-refuses, Line-kept}
+use Rattle.comparison.specs.Lays.{Unlawful, Table-refuses, Line-kept}
 
 -- ---- a line that passed its own tests
 
@@ -118,33 +118,40 @@ true-false e f = let z : _≡_ {A = ℕ} 0 1 = ap (λ x. cond x 0 1) (sym e ∙ 
 passing : (b : Bool) (f g : TableFault) (later : Option TableFault) → b ≡ true → test b f later ≡ Some g → later ≡ Some g
 passing b f g later t e = ⊎-elim (λ x. absurd (true-false t (x .0))) (λ x. x) (test-some b f g later e)
 
-pub input-refuses : (s : Store) (i : ℕ) → i < s .inputs → (f : TableFault) → input-refusal s i ≡ Some f → Table-refuses f
-input-refuses s i h f e = absurd (some-none (passing (ltb i (s .inputs)) NoInput f None (lt-ltb i (s .inputs) h) e))
+pub input-refuses : (o : Ops) (s : Store) (hs : List ℕ) (i : ℕ) → i < s .inputs → (f : TableFault) → input-refusal s i ≡ Some f → Table-refuses o s hs f
+input-refuses o s hs i h f e = absurd (some-none (passing (ltb i (s .inputs)) NoInput f None (lt-ltb i (s .inputs) h) e))
 
-pub constant-refuses : (o : Ops) (v : ℕ) → v < o .count → (f : TableFault) → constant-refusal o v ≡ Some f → Table-refuses f
-constant-refuses o v h f e = absurd (some-none (passing (ltb v (o .count)) NoCode f None (lt-ltb v (o .count) h) e))
+pub constant-refuses : (o : Ops) (s : Store) (hs : List ℕ) (v : ℕ) → v < o .count → (f : TableFault) → constant-refusal o v ≡ Some f → Table-refuses o s hs f
+constant-refuses o s hs v h f e = absurd (some-none (passing (ltb v (o .count)) NoCode f None (lt-ltb v (o .count) h) e))
 
-pub turn-refuses : (o : Ops) (s : Store) (rows x : ℕ) → s .inputs < rows → (f : TableFault) → turn-refusal o s rows x ≡ Some f → Table-refuses f
-turn-refuses o s rows x h f e =
+-- a handle of an earlier line that is not lawful
+unlawful : (o : Ops) (s : Store) (hs : List ℕ) (k x : ℕ) → k < length hs → x ≡ getD hs k 0 → lawful o s x ≡ false → Unlawful o s hs
+unlawful o s hs k x h e not = (k, h, subst (λ z. lawful o s z ≡ false) e not)
+
+pub turn-refuses : (o : Ops) (s : Store) (hs : List ℕ) (rows k x : ℕ) → s .inputs < rows → k < length hs → x ≡ getD hs k 0 → (f : TableFault) → turn-refusal o s rows x ≡ Some f → Table-refuses o s hs f
+turn-refuses o s hs rows k x h earlier is f e =
     let a = passing (ltb (s .inputs) rows) FewRows f _ (lt-ltb (s .inputs) rows h) e in
-    ⊎-elim (λ y. inr (y .1)) (λ y. absurd (some-none y)) (test-some (lawful o s x) NoSuchHandle f None a)
+    ⊎-elim (λ y. inr (y .1, unlawful o s hs k x earlier is (y .0))) (λ y. absurd (some-none y)) (test-some (lawful o s x) NoSuchHandle f None a)
 
-pub join-refuses : (o : Ops) (s : Store) (rows k x y : ℕ) → s .inputs < rows → known o k ≡ true → (f : TableFault) → join-refusal o s rows k x y ≡ Some f → Table-refuses f
-join-refuses o s rows k x y h there f e =
+pub join-refuses : (o : Ops) (s : Store) (hs : List ℕ) (rows k i j x y : ℕ) → s .inputs < rows → known o k ≡ true → i < length hs → x ≡ getD hs i 0 → j < length hs → y ≡ getD hs j 0
+    → (f : TableFault) → join-refusal o s rows k x y ≡ Some f → Table-refuses o s hs f
+join-refuses o s hs rows k i j x y h there hi xi hj yj f e =
     let a = passing (ltb (s .inputs) rows) FewRows f _ (lt-ltb (s .inputs) rows h) e in
     let b = passing (known o k) NoSuchOperator f _ there a in
-    ⊎-elim (λ z. inr (z .1)) (λ z. ⊎-elim (λ u. inr (u .1)) (λ u. absurd (some-none u)) (test-some (lawful o s y) NoSuchHandle f None z)) (test-some (lawful o s x) NoSuchHandle f _ b)
+    ⊎-elim (λ z. inr (z .1, unlawful o s hs i x hi xi (z .0)))
+    (λ z. ⊎-elim (λ u. inr (u .1, unlawful o s hs j y hj yj (u .0))) (λ u. absurd (some-none u)) (test-some (lawful o s y) NoSuchHandle f None z))
+    (test-some (lawful o s x) NoSuchHandle f _ b)
 
 -- ---- what it leaves
 
 stopped-back : (s t : Store) → t ≡ s → Back s (s .used) t
 stopped-back s t e = record { inputs = ap (λ z. z .inputs) e; used = ap (λ z. z .used) e; same = λ p h. ap (λ z. z .at p) e }
 
-pub outcome : (s t : Store) (P Q : Pairs) (refusal : Option TableFault) (r : Result ℕ TableFault) → Shape s t P Q refusal r → ((f : TableFault) → refusal ≡ Some f → Table-refuses f)
-    → results.Cases r (λ _. Grows s t) (λ f. Back s (s .used) t × Table-refuses f)
-outcome s t P Q refusal (Ok h) shape refuses = shape .grows
-outcome s t P Q refusal (Err f) (inl stopped) refuses = (stopped-back s t (stopped .table), refuses f (stopped .why))
-outcome s t P Q refusal (Err f) (inr cut) refuses = (cut .table, inl (cut .full))
+pub outcome : (o : Ops) (hs : List ℕ) (s t : Store) (P Q : Pairs) (refusal : Option TableFault) (r : Result ℕ TableFault) → Shape s t P Q refusal r → ((f : TableFault) → refusal ≡ Some f → Table-refuses o s hs f)
+    → results.Cases r (λ _. Grows s t) (λ f. Back s (s .used) t × Table-refuses o t hs f)
+outcome o hs s t P Q refusal (Ok h) shape refuses = shape .grows
+outcome o hs s t P Q refusal (Err f) (inl stopped) refuses = (stopped-back s t (stopped .table), subst (λ z. Table-refuses o z hs f) (sym (stopped .table)) (refuses f (stopped .why)))
+outcome o hs s t P Q refusal (Err f) (inr cut) refuses = (cut .table, inl (cut .full))
 
 -- ---- what it means
 

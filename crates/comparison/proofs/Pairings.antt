@@ -7,7 +7,7 @@ use native.Mathlib.Omega.{arith}
 use lib.ListN.{length, getD, set, take, drop}
 use Rattle.std.specs.declared.result.Result.{Result}
 use Rattle.std.specs.declared.result.Result.the-variants.{Ok, Err}
-use Rattle.std.proofs.shelf.Lists.{length-take-le, length-map, length-drop, take-all, take-more-set, map-push, drop-set-lt, drop-drop, drop-more}
+use Rattle.std.proofs.shelf.Lists.{length-take-le, length-map, length-drop, take-all, take-more-set, map-push, drop-set-lt, drop-drop, drop-more, length-append, getD-append-left, getD-append-add}
 use Rattle.std.proofs.shelf.Tests.{cases-lt}
 use Rattle.algebra.specs.Ops.{Ops}
 use Rattle.algebra.specs.Laws.{Laws}
@@ -188,12 +188,19 @@ module _ {o : Ops} (laws : Laws o) {room : ℕ} {s t : Store} {P Q : Pairs} {ls 
   -- what a refused pair leaves
   pub refused-leaves : s .inputs < rows → (f : TableFault) (r : Result Checked TableFault) → r ≡ Err f
       → Shape t u Q R (join-refusal o t rows 9 (getD hs x 0) (getD ks y 0)) (handle-of r)
-      → length old ≡ out-count ls → Pairs-checked s u old new (Err (record { pair = k; fault = f }))
+      → length old ≡ out-count ls → Pairs-checked o s u (hs ++ ks) old new (Err (record { pair = k; fault = f }))
   refused-leaves enough f (Ok d) e shape count = absurd (let z : _≡_ {A = ℕ} 0 1 = cc in omega arith)
   refused-leaves enough f (Err h) e shape count =
       let is : h ≡ f = cc in
-      let left = outcome t u Q R (join-refusal o t rows 9 (getD hs x 0) (getD ks y 0)) (Err h) shape (join-refuses o t rows 9 (getD hs x 0) (getD ks y 0) (let g = checking .grows .inputs in omega arith) refl) in
-      (grows-trans (checking .grows) (back-grows (left .0)), (let d = due .inside in omega arith), subst Table-refuses is (left .1), checking .rest)
+      let long = length-append hs ks in
+      let one : x < length hs = (let i = left .inside in omega arith) in
+      let two : y < length ks = (let i = right .inside in omega arith) in
+      let told =
+          outcome o (hs ++ ks) t u Q R (join-refusal o t rows 9 (getD hs x 0) (getD ks y 0)) (Err h) shape
+          (join-refuses o t (hs ++ ks) rows 9 x (length hs + y) (getD hs x 0) (getD ks y 0) (let g = checking .grows .inputs in omega arith) refl
+          (omega arith) (sym (getD-append-left hs ks 0 x one)) (omega arith) (sym (getD-append-add hs ks y 0)))
+      in
+      (grows-trans (checking .grows) (back-grows (told .0)), (let d = due .inside in omega arith), subst (Table-refuses o u (hs ++ ks)) is (told .1), checking .rest)
 
 -- all pairs are checked
 pub all-checked : {o : Ops} {room : ℕ} {s t : Store} {P Q : Pairs} {ls ms : List Line} {hs ks : List ℕ} {old new : List Checked} {k i j : ℕ} → Checking o room s t P Q ls ms hs ks old new k i j → length new ≤ k

@@ -56,10 +56,10 @@ pairs-event ls ms hs ks cs (Ok _) = compare ls ms (map told hs) (map told ks) (m
 pairs-event ls ms hs ks cs (Err e) =
     compare ls ms (map told hs) (map told ks) (map told (row-handles (take (e .pair) cs)) ++ answer-of (Err (e .fault)) ∷ []) (row-findings (take (e .pair) cs))
 
--- what checking all pairs leaves: rows before a refused pair are written
-abbrev pub Pairs-checked : Store → Store → List Checked → List Checked → Result (Unit {0}) PairRefusal → Type 0
-Pairs-checked s t old new (Ok _) = Grows s t
-Pairs-checked s t old new (Err e) = Grows s t × (e .pair < length old) × Table-refuses (e .fault) × (drop (e .pair) new ≡ drop (e .pair) old)
+-- what checking all pairs of lines with the handles hs leaves: rows before a refused pair are written
+abbrev pub Pairs-checked : Ops → Store → Store → List ℕ → List Checked → List Checked → Result (Unit {0}) PairRefusal → Type 0
+Pairs-checked o s t hs old new (Ok _) = Grows s t
+Pairs-checked o s t hs old new (Err e) = Grows s t × (e .pair < length old) × Table-refuses o t hs (e .fault) × (drop (e .pair) new ≡ drop (e .pair) old)
 
 -- what the first and what the second netlist came to
 abbrev pub in-first : Result (Unit {0}) LayFault → Result (Unit {0}) CompareFault
@@ -85,7 +85,7 @@ parts-event ls ms hs ks cs (Err (Pair e)) = pairs-event ls ms hs ks cs (Err e)
 abbrev pub Line-refused : Ops → Store → Store → List Line → List ℕ → List ℕ → LayFault → Type 0
 Line-refused o s t ls old new ShortLines = ⊥
 Line-refused o s t ls old new (OfTable f) = ⊥
-Line-refused o s t ls old new (AtLine e) = (e .line < length ls) × Refused-line o (s .inputs) ls (e .line) (e .fault) × Written s t old new (e .line)
+Line-refused o s t ls old new (AtLine e) = (e .line < length ls) × Refused-line o (s .inputs) ls t (take (e .line) new) (e .line) (e .fault) × Written s t old new (e .line)
 
 -- what comparing two netlists leaves, once the tests before the lines have passed: handles and rows before a refused line or
 -- pair are written, and the others are as before
@@ -98,7 +98,7 @@ Parts-compared o s t ls ms hs hs′ ks ks′ cs cs′ (Err (Table f)) = ⊥
 Parts-compared o s t ls ms hs hs′ ks ks′ cs cs′ (Err (First e)) = Line-refused o s t ls hs hs′ e × (ks′ ≡ ks) × (cs′ ≡ cs)
 Parts-compared o s t ls ms hs hs′ ks ks′ cs cs′ (Err (Second e)) = (first-fault o (s .inputs) 0 ls ≡ None) × Line-refused o s t ms ks ks′ e × (cs′ ≡ cs)
 Parts-compared o s t ls ms hs hs′ ks ks′ cs cs′ (Err (Pair e)) =
-    (first-fault o (s .inputs) 0 ls ≡ None) × (first-fault o (s .inputs) 0 ms ≡ None) × Pairs-checked s t cs cs′ (Err e)
+    (first-fault o (s .inputs) 0 ls ≡ None) × (first-fault o (s .inputs) 0 ms ≡ None) × Pairs-checked o s t (hs′ ++ ks′) cs cs′ (Err e)
 
 -- the counts let two netlists be compared with so many handles and rows for findings
 pub record Counted (ls ms : List Line) (handles found : ℕ) : Type 0 where

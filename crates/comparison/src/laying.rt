@@ -48,7 +48,7 @@ fn make_line<G: Algebra, M: Memo>(
     requires rows { ⌜ view (now table) .inputs < length (now rows) ⌝ }
     ensures outcome { λ r. ⌜ ByOk r
         (λ _. Grows (view (now (table .entry))) (view (now (table .exit))))
-        (λ f. Back (view (now (table .entry))) (view (now (table .entry)) .used) (view (now (table .exit))) × Table-refuses f) ⌝ }
+        (λ f. Back (view (now (table .entry))) (view (now (table .entry)) .used) (view (now (table .exit))) × Table-refuses ops (view (now (table .exit))) (take number (now (handles .entry))) f) ⌝ }
     ensures room { λ _. ⌜ room (now (table .exit)) ≡ room (now (table .entry)) ⌝ }
     ensures kept { λ r. ⌜ Line-kept ops (room (now (table .entry))) (view (now (table .entry))) (view (now (table .exit))) (recalls (now (memo .entry))) (recalls (now (memo .exit))) (take number (now (handles .entry))) line (answer-of r) ⌝ }
 {
@@ -87,7 +87,7 @@ fn lay_line<G: Algebra, M: Memo>(
 ) -> Result<u32, LineReason>
     requires within { ⌜ number ≤ length (now handles) ⌝ }
     requires rows { ⌜ view (now table) .inputs < length (now rows) ⌝ }
-    ensures lined { λ r. ⌜ Lined ops (view (now (table .entry))) (view (now (table .exit))) (recalls (now (memo .entry))) (recalls (now (memo .exit))) number line r ⌝ }
+    ensures lined { λ r. ⌜ Lined ops (view (now (table .entry))) (view (now (table .exit))) (recalls (now (memo .entry))) (recalls (now (memo .exit))) (take number (now (handles .entry))) number line r ⌝ }
     ensures room { λ _. ⌜ room (now (table .exit)) ≡ room (now (table .entry)) ⌝ }
     ensures kept { λ r. ⌜ Line-kept ops (room (now (table .entry))) (view (now (table .entry))) (view (now (table .exit))) (recalls (now (memo .entry))) (recalls (now (memo .exit))) (take number (now (handles .entry))) line (line-answer r) ⌝ }
 {

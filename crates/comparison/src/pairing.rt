@@ -1,6 +1,6 @@
 // Checking the OUT lines of two netlists pairwise.
 ghost use mathlib.Core.Path.{_≡_};
-ghost use mathlib.Core.List.{List, _∷_};
+ghost use mathlib.Core.List.{List, _∷_, _++_};
 ghost use Prim.Native.Nat.{ℕ, _<_, _≤_};
 ghost use lib.ListN.{length, getD, drop};
 ghost use Rattle.netlist.specs.Lines.{outs, out-count};
@@ -62,7 +62,7 @@ pub(crate) fn check_pairs<G: Algebra, M: Memo>(
     requires even { ⌜ out-count (now second) ≡ out-count (now first) ⌝ }
     requires room { ⌜ length (now found) ≡ out-count (now first) ⌝ }
     requires rows { ⌜ view (now table) .inputs < length (now rows) ⌝ }
-    ensures checked { λ r. ⌜ Pairs-checked (view (now (table .entry))) (view (now (table .exit))) (now (found .entry)) (now (found .exit)) r ⌝ }
+    ensures checked { λ r. ⌜ Pairs-checked ops (view (now (table .entry))) (view (now (table .exit))) (now (left .entry) ++ now (right .entry)) (now (found .entry)) (now (found .exit)) r ⌝ }
     ensures room { λ _. ⌜ room (now (table .exit)) ≡ room (now (table .entry)) ⌝ }
     ensures kept { λ r. ⌜ ((run : Run) → Kept ops (room (now (table .entry))) (no-pairs (now (first .entry)) (now (second .entry)) (now (left .entry)) (now (right .entry)) ∷ run) (view (now (table .entry))) (recalls (now (memo .entry)))
         → Kept ops (room (now (table .entry))) (pairs-event (now (first .entry)) (now (second .entry)) (now (left .entry)) (now (right .entry)) (now (found .exit)) r ∷ run) (view (now (table .exit))) (recalls (now (memo .exit)))) ⌝ }

@@ -20,7 +20,7 @@ use Rattle.diagram.specs.Stores.{Store, handle, value}
 use Rattle.diagram.specs.Rules.{Well, Sound, Lawful}
 use Rattle.diagram.specs.Memos.{Pairs}
 use Rattle.diagram.specs.Counts.{One-part, Part-of, nth, Different-parts, All-parts}
-use Rattle.diagram.specs.Runs.{Answer, told, full, refused, Given, given, Entry, Book, book-signals, signal-of, Step, step, booked, all-booked, Stands, Holds}
+use Rattle.diagram.specs.Runs.{Answer, told, full, refused, Given, given, Entry, Book, book-signals, signal-of, Step, step, booked, all-booked, One-number, Stands, Holds}
 use Rattle.diagram.proofs.Values.{value-constant, codes, handle-lawful}
 use Rattle.diagram.proofs.Canon.{one-number}
 use Rattle.diagram.proofs.Alike.{agree-sym, agree-trans, is-constant-decides, one-sym, one-turned}
@@ -67,8 +67,7 @@ signal-given o n s (e ∷ es) h all p k =
 
 module _ {o : Ops} (laws : Laws o) {s : Store} (w : Well s) {b : Book} {P : Pairs} (holds : Holds o (s .inputs) b s P) where
   -- two booked handles are equal exactly when their signals are
-  pub booked-once :
-      All (λ e. All (λ f. (e .number ≡ f .number → Agree (s .inputs) (e .signal) (f .signal)) × (Agree (s .inputs) (e .signal) (f .signal) → e .number ≡ f .number)) b) b
+  pub booked-once : One-number (s .inputs) b
   booked-once =
       all-weaker (Stands o n s) _
       (λ e p. all-weaker (Stands o n s) _

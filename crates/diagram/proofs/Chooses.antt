@@ -1,28 +1,28 @@
 -- Making a record: what its place and its handle have, and why a full table is told rightly. Assumes nothing.
 use mathlib.Core.Path.{_≡_, refl, sym, ap, _∙_, subst}
-use mathlib.Core.Bool.{Bool, true, false, cond}
+use mathlib.Core.Bool.{false, cond}
 use mathlib.Core.Logic.{_⊎_, inl, inr, ⊎-elim}
-use Prim.Native.Nat.{ℕ, _+_, _^_, _<_, _≤_}
+use Prim.Native.Nat.{ℕ, _+_, _<_, _≤_}
 use native.Mathlib.Omega.{arith}
 use lib.Dec.{eqb}
-use Rattle.std.proofs.shelf.Tests.{cases-lt, cases-bool, cond-true, cond-false, eq-eqb, ne-eqb}
+use Rattle.std.proofs.shelf.Tests.{cases-bool, cond-true, cond-false, eq-eqb, ne-eqb}
 use Rattle.algebra.specs.Ops.{Ops}
 use Rattle.algebra.specs.Laws.{Laws}
-use Rattle.netlist.specs.Signals.{Signal, Agree, constant}
+use Rattle.netlist.specs.Signals.{Agree}
 use Rattle.netlist.specs.Parts.{is-constant}
 use Rattle.diagram.specs.declared.record.Record.{Record}
-use Rattle.diagram.specs.Stores.{Store, handle, place, marked, level, value}
+use Rattle.diagram.specs.Stores.{Store, handle, place, marked, value}
 use Rattle.diagram.specs.Rules.{Well, Sound, Lawful}
-use Rattle.diagram.specs.Changes.{Within, Grows, Added}
+use Rattle.diagram.specs.Changes.{Added}
 use Rattle.diagram.specs.Steps.{Fits, Lacks, Found, Fresh}
-use Rattle.diagram.specs.Marks.{choice, kept, made-handle, Made}
+use Rattle.diagram.specs.Marks.{choice, kept, made-handle}
 use Rattle.diagram.specs.Makings.{Beyond, From, Chosen, Crowded}
 use Rattle.diagram.specs.Counts.{One-part}
-use Rattle.diagram.proofs.Alike.{agree-sym, one-sym, one-trans, one-turned, one-varies, is-constant-decides}
-use Rattle.diagram.proofs.Values.{place-handle, unmarked-handle, lawful-place, lawful-within, handle-lawful, value-grows, value-under, under-marked, codes}
+use Rattle.diagram.proofs.Alike.{one-sym, one-trans, one-turned, one-varies, is-constant-decides}
+use Rattle.diagram.proofs.Values.{unmarked-handle, lawful-place, lawful-within, handle-lawful, value-grows, value-under, under-marked, codes}
 use Rattle.diagram.proofs.Canon.{marked-settled}
 use Rattle.diagram.proofs.Distinct.{places-agree, places-opposite, place-varies}
-use Rattle.diagram.proofs.Adds.{grows-refl, added-grows}
+use Rattle.diagram.proofs.Adds.{added-grows}
 use Rattle.diagram.proofs.Makes.{well-made, made-within, made-level, made-place, made-same, made-found, made-added}
 
 module _ {o : Ops} (laws : Laws o) {s : Store} (w : Well s) (sound : Sound o s) where

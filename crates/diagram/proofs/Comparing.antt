@@ -28,12 +28,12 @@ use Rattle.diagram.specs.Stores.{Store, value}
 use Rattle.diagram.specs.Rules.{Well, Sound}
 use Rattle.diagram.specs.Memos.{Pairs}
 use Rattle.diagram.specs.Outcomes.{Shape, True-pairs, Meaning}
-use Rattle.diagram.specs.Runs.{Answer, told, full, refused, Event, lay, compare, Run, answer-of, Book, Step, step, all-booked, kept-pairs, steps, book, Provided, True-findings, All-true, Stands, Kept}
+use Rattle.diagram.specs.Runs.{Answer, told, full, refused, lay, compare, Run, answer-of, Book, Step, step, all-booked, kept-pairs, book, Provided, All-true, Stands, Kept}
 use Rattle.diagram.proofs.Books.{before-steps, booked-append}
 use Rattle.diagram.proofs.Grades.{finding-agrees}
 use Rattle.diagram.proofs.Stepping.{Stepped, one-step, inputs-kept, Walked, walked-append, walked-more}
-use Rattle.diagram.proofs.Events.{Leaves, facts-after, kept-more}
-use Rattle.diagram.proofs.Laying.{zipped-none, zipped-more, Signalled, told-signalled, signalled-here}
+use Rattle.diagram.proofs.Events.{facts-after, kept-more}
+use Rattle.diagram.proofs.Laying.{zipped-none, zipped-more, Signalled, told-signalled, signalled-here, kept-lay-none}
 
 -- ---- the two netlists
 
@@ -64,6 +64,11 @@ kept-laid {o} laws {s} w room P run ls ms xs ys kept provided =
 
     second : List Step
     second = zipped step (line-signals o n ms) ys
+
+-- a compare that is refused before its first line
+pub kept-compare-none : {o : Ops} → Laws o → {s : Store} → Well s → (room : ℕ) (P : Pairs) (run : Run) (ls ms : List Line) → Kept o room run s P → Kept o room (compare ls ms [] [] [] [] ∷ run) s P
+kept-compare-none laws w room P run ls ms kept =
+    kept-laid laws w room P run ls ms [] [] (kept-lay-none laws w room P (lay ls [] ∷ run) ms (kept-lay-none laws w room P run ls kept))
 
 -- ---- the pairs
 

@@ -1,6 +1,5 @@
 -- The shape of a walk, on any table: what it lends to its halves, and where its answers stand. Assumes nothing.
-use mathlib.Core.Path.{_≡_, sym, ap, _∙_}
-use mathlib.Core.Logic.{⊎-elim}
+use mathlib.Core.Path.{_≡_, ap, _∙_}
 use Prim.Native.Nat.{ℕ, _+_, _<_, _≤_, min}
 use native.Mathlib.Omega.{arith}
 use Rattle.algebra.specs.Ops.{Ops}

@@ -13,11 +13,11 @@ use Rattle.netlist.specs.Signals.{Signal, Agree, turned, joined}
 use Rattle.netlist.specs.Parts.{concat, different, part-count}
 use Rattle.netlist.specs.Findings.{finding}
 use Rattle.diagram.specs.declared.fault.TableFault.{TableFault}
-use Rattle.diagram.specs.Stores.{Store, handle, value}
+use Rattle.diagram.specs.Stores.{Store, value}
 use Rattle.diagram.specs.Rules.{Well, Sound}
 use Rattle.diagram.specs.Memos.{Pairs, No-pairs}
-use Rattle.diagram.specs.Outcomes.{Shape, True-pairs, Means, Meaning}
-use Rattle.diagram.specs.Runs.{Answer, told, full, refused, Event, input, constant, turn, join, check, Run, answer-of, given, Book, signal-of, Step, step, all-booked, If-told, steps, book, Gives-booked, Provided, True-findings, All-true, Found, Holds, Facts, Kept}
+use Rattle.diagram.specs.Outcomes.{Shape, True-pairs, Meaning}
+use Rattle.diagram.specs.Runs.{Answer, told, full, refused, Event, input, constant, turn, join, check, Run, answer-of, given, Book, signal-of, step, If-told, steps, book, Gives-booked, Provided, True-findings, All-true, Found, Holds, Facts, Kept}
 use Rattle.diagram.proofs.Alike.{agree-refl}
 use Rattle.diagram.proofs.Books.{signal-given, booked-once, places-counted}
 use Rattle.diagram.proofs.Grades.{finding-agrees}
@@ -155,6 +155,11 @@ module _ {o : Ops} (laws : Laws o) {s t : Store} (w : Well s) (v : Well t) {room
       if-told (told h) f x = f x
       if-told full f x = tt
       if-told refused f x = tt
+
+-- ---- where nothing changes
+
+pub kept-same : (o : Ops) (room : ℕ) (run : Run) {s t : Store} {P Q : Pairs} → t ≡ s → Q ≡ P → Kept o room run s P → Kept o room run t Q
+kept-same o room run {s} {t} {P} {Q} table memo kept = subst (λ x. Kept o room run x Q) (sym table) (subst (λ x. Kept o room run s x) (sym memo) kept)
 
 -- ---- what is found
 

@@ -2,37 +2,33 @@
 use mathlib.Core.Path.{_≡_, refl, sym, ap, _∙_, subst}
 use mathlib.Core.Bool.{Bool, true, false, cond}
 use mathlib.Core.List.{List, [], _∷_}
-use mathlib.Core.Logic.{_⊎_, inl, inr, ⊎-elim}
-use Prim.Native.Nat.{ℕ, zero, suc, _+_, _^_, _<_, _≤_, suc-le-suc}
+use mathlib.Core.Logic.{_⊎_, inl, ⊎-elim}
+use Prim.Native.Nat.{ℕ, zero, suc, _<_, _≤_, suc-le-suc}
 use native.Mathlib.Omega.{arith}
-use lib.Dec.{eqb, ltb}
-use lib.ListN.{length}
-use Rattle.std.proofs.shelf.Tests.{cases-lt, cond-true, cond-false, cond-both, eqb-true, eqb-false, ltb-true, eq-eqb, ne-eqb, both-ways}
+use lib.Dec.{eqb}
+use Rattle.std.proofs.shelf.Tests.{cases-lt, cond-both, eqb-true, eqb-false, ne-eqb, both-ways}
 use Rattle.std.specs.declared.option.Option.{Option}
-use Rattle.std.specs.declared.option.Option.the-variants.{Some, None}
-use Rattle.std.specs.declared.result.Result.{Result}
-use Rattle.std.specs.declared.result.Result.the-variants.{Ok, Err}
-use Rattle.std.specs.Of.Vec.{vec-items, vec-len}
+use Rattle.std.specs.declared.option.Option.the-variants.{Some}
 use Rattle.algebra.specs.Ops.{Ops, known}
 use Rattle.algebra.specs.Laws.{Laws}
-use Rattle.netlist.specs.Signals.{Signal, Agree, bit, input, constant, turned, joined}
-use Rattle.netlist.specs.Parts.{part-count, is-constant}
+use Rattle.netlist.specs.Signals.{Signal, Agree, bit, input, constant, joined}
+use Rattle.netlist.specs.Parts.{part-count}
 use Rattle.diagram.specs.declared.fault.TableFault.{TableFault}
 use Rattle.diagram.specs.declared.table.Table.{Table}
-use Rattle.diagram.specs.Stores.{Store, handle, level, value}
+use Rattle.diagram.specs.Stores.{Store, handle, value}
 use Rattle.diagram.specs.Rules.{Well, Sound, Lawful}
-use Rattle.diagram.specs.Changes.{Within, Grows}
+use Rattle.diagram.specs.Changes.{Grows}
 use Rattle.diagram.specs.Steps.{Back}
 use Rattle.diagram.specs.Marks.{choice}
-use Rattle.diagram.specs.Makings.{Beyond, Chosen, Crowded}
+use Rattle.diagram.specs.Makings.{Chosen, Crowded}
 use Rattle.diagram.specs.Memos.{Pairs}
-use Rattle.diagram.specs.Counts.{One-part, Part-in, Different-parts, nth}
-use Rattle.diagram.specs.Outcomes.{True-pairs, Result-of, Overfull, Shape, Means}
-use Rattle.diagram.specs.Walks.{combine, combined, Ran-out}
+use Rattle.diagram.specs.Counts.{Part-in, Different-parts}
+use Rattle.diagram.specs.Outcomes.{True-pairs, Result-of, Overfull}
+use Rattle.diagram.specs.Walks.{combined, Ran-out}
 use Rattle.diagram.specs.Faults.{test}
 use Rattle.diagram.specs.Views.{view, room}
 use Rattle.diagram.proofs.Counting.{one-more, part-in-one}
-use Rattle.diagram.proofs.Values.{level-constant, constant-lawful, value-constant, value-grows}
+use Rattle.diagram.proofs.Values.{constant-lawful, value-constant, value-grows}
 use Rattle.diagram.proofs.Moves.{pattern-moved}
 use Rattle.diagram.proofs.Chooses.{one-place, place-vary}
 use Rattle.diagram.proofs.Walking.{part-in-itself, pairs-grow}
@@ -63,13 +59,7 @@ overfull {o} laws {s} {t} w v grows room result r ss from =
 pub back-again : {s t u : Store} → Grows s t → Back t (s .used) u → Back s (s .used) u
 back-again grows back = record { inputs = back .inputs ∙ grows .inputs; used = back .used; same = λ p l. back .same p l ∙ grows .same p l }
 
-pub back-same : {s t : Store} → t ≡ s → Back s (s .used) t
-back-same {s} {t} e = subst (Back s (s .used)) (sym e) (record { inputs = refl; used = refl; same = λ p l. refl })
-
 -- ---- an input
-
-pub bit-beyond : (s : Store) (i v : ℕ) → v < 2 → i < s .inputs → Beyond s i v
-bit-beyond s i v l inside = record { within = omega arith; deeper = omega (arith, level-constant s v (omega arith)) }
 
 pub bit-lawful : {o : Ops} → Laws o → (s : Store) (v : ℕ) → v < 2 → Lawful o s v
 bit-lawful {o} laws s v l = constant-lawful o s v (omega arith) (omega (arith, laws .two-or-more))

@@ -13,12 +13,11 @@ use Rattle.diagram.specs.declared.row.Row.{Row}
 use Rattle.diagram.specs.Stores.{Store, place, marked, level, side, value}
 use Rattle.diagram.specs.Rules.{Well, Sound, Lawful}
 use Rattle.diagram.specs.Changes.{Within}
-use Rattle.diagram.specs.Steps.{split-low, split-high}
 use Rattle.diagram.specs.Marks.{negate, cofactor}
 use Rattle.diagram.specs.Makings.{Beyond}
 use Rattle.diagram.specs.Walks.{cofactor-at, Cut}
 use Rattle.diagram.proofs.Bits.{fixed}
-use Rattle.diagram.proofs.Values.{level-constant, level-inside, level-within}
+use Rattle.diagram.proofs.Values.{level-constant, level-inside}
 use Rattle.diagram.proofs.Firsts.{side-same}
 use Rattle.diagram.proofs.Cofactors.{cofactor-within, cofactor-deeper, cofactor-lawful, cofactor-value, cofactor-means}
 

@@ -3,39 +3,36 @@
 use mathlib.Core.Path.{_≡_, refl, sym, ap, ap₂, _∙_, subst}
 use mathlib.Core.Bool.{Bool, true, false, cond}
 use mathlib.Core.List.{List, [], _∷_, _++_, map, append-assoc, append-nil}
-use mathlib.Core.Logic.{⊎-elim}
 use Prim.Native.Nat.{ℕ, zero, suc, _+_, _<_, _≤_}
 use native.Mathlib.Omega.{arith}
-use native.Mathlib.Numerals.{add-one}
 use lib.Dec.{eqb}
-use lib.ListN.{length, getD, take, drop}
+use lib.ListN.{length, getD, set, take, drop}
 use Rattle.std.specs.shelf.Lists.{All}
 use Rattle.std.specs.declared.option.Option.{Option}
-use Rattle.std.specs.declared.option.Option.the-variants.{Some, None}
+use Rattle.std.specs.declared.option.Option.the-variants.{None}
 use Rattle.std.specs.declared.result.Result.{Result}
-use Rattle.std.specs.declared.result.Result.the-variants.{Ok, Err}
-use Rattle.std.proofs.shelf.Lists.{take-append-drop, take-at, take-more, take-take, length-take-le, length-map, getD-take, getD-push, getD-default, map-push}
-use Rattle.std.proofs.shelf.Tests.{cases-bool, cond-true, cond-false, eq-eqb, ne-eqb}
+use Rattle.std.specs.declared.result.Result.the-variants.{Ok}
+use Rattle.std.proofs.shelf.Lists.{take-append-drop, take-at, take-more-set, length-take-le, length-map, getD-take, getD-push, getD-map, map-push}
+use Rattle.std.proofs.shelf.Tests.{cond-true, cond-false, eq-eqb, ne-eqb}
 use Rattle.algebra.specs.Ops.{Ops}
 use Rattle.algebra.specs.Laws.{Laws}
 use Rattle.netlist.specs.declared.line.Line.{Line}
 use Rattle.netlist.specs.Signals.{Signal, Agree, constant, turned, joined}
 use Rattle.netlist.specs.Signals as signals
-use Rattle.netlist.specs.Lines.{signal-at, line-signal, signals-after, line-signals, outs, out-count}
-use Rattle.netlist.specs.Findings.{finding, zipped}
-use Rattle.netlist.proofs.LineSignals.{signals-push, signals-length, signals-more}
+use Rattle.netlist.specs.Lines.{signal-at, line-signal, signals-after, line-signals}
+use Rattle.netlist.specs.Findings.{zipped}
+use Rattle.netlist.proofs.LineSignals.{signals-length, signals-more}
 use Rattle.diagram.specs.declared.fault.TableFault.{TableFault}
-use Rattle.diagram.specs.declared.fault.TableFault.the-variants.{NoSuchHandle}
-use Rattle.diagram.specs.Stores.{Store, handle, value}
-use Rattle.diagram.specs.Rules.{Well, Sound, Lawful}
+use Rattle.diagram.specs.Stores.{Store, value}
+use Rattle.diagram.specs.Rules.{Well}
 use Rattle.diagram.specs.Memos.{Pairs}
-use Rattle.diagram.specs.Outcomes.{Shape, True-pairs, Result-of, Meaning}
-use Rattle.diagram.specs.Runs.{Answer, told, full, refused, Event, lay, compare, Run, answer-of, Entry, Book, Step, step, all-booked, steps, book, Stands, Holds, Kept}
+use Rattle.diagram.specs.Outcomes.{Shape, Meaning}
+use Rattle.diagram.specs.Runs.{Answer, told, refused, lay, Run, answer-of, Entry, Book, step, all-booked, book, Stands, Kept}
 use Rattle.diagram.proofs.Values.{lawful-within}
-use Rattle.diagram.proofs.Alike.{agree-refl, agree-trans}
-use Rattle.diagram.proofs.Books.{before-steps, booked-append}
+use Rattle.diagram.proofs.Alike.{agree-refl}
+use Rattle.diagram.proofs.Books.{before-steps}
 use Rattle.diagram.proofs.Stepping.{Stepped, one-step, inputs-kept, Walked, walked-none, walked-more}
-use Rattle.diagram.proofs.Events.{Leaves, kept-event, kept-more}
+use Rattle.diagram.proofs.Events.{kept-event, kept-more}
 
 -- ---- lists
 
@@ -51,6 +48,10 @@ unfolding zipped
 zipped-more f [] ys x y h = absurd (omega arith)
 zipped-more f (a ∷ xs) [] x y h = ap (λ l. f a y ∷ l) (zipped-none f xs)
 zipped-more f (a ∷ xs) (b ∷ ys) x y h = ap (λ l. f a b ∷ l) (zipped-more f xs ys x y (omega arith))
+
+-- the answers so far, when the handle of one more line is written
+pub told-more : (hs : List ℕ) (i h : ℕ) → i < length hs → map told (take (i + 1) (set hs i h)) ≡ map told (take i hs) ++ told h ∷ []
+told-more hs i h l = ap (map told) (take-more-set hs i h l) ∙ map-push told (take i hs) h
 
 -- ---- the signals of the lines so far
 
@@ -107,6 +108,33 @@ module _ (o : Ops) (n : ℕ) where
       ∙ cond-false (eqb (l .kind) 2) _ _ (ne-eqb (l .kind) 2 (λ z. omega arith))
       ∙ cond-true (eqb (l .kind) 8) _ _ (eq-eqb (l .kind) 8 e)
 
+-- what a line means, by its kind, over the values of the handles of the lines before it
+module _ (o : Ops) (n : ℕ) (s : Store) (hs : List ℕ) (l : Line) where
+  handle-signal : (k : ℕ) → k < length hs → signal-at (map (value o s) hs) k ≡ value o s (getD hs k 0)
+  handle-signal k h = getD-map (value o s) hs k 0 (constant 0) h
+
+  input-means : l .kind ≡ 0 → line-signal o n (map (value o s) hs) l ≡ signals.input n (l .first)
+  input-means e = cond-true (eqb (l .kind) 0) _ _ (eq-eqb (l .kind) 0 e)
+
+  constant-means : l .kind ≡ 1 → line-signal o n (map (value o s) hs) l ≡ constant (l .first)
+  constant-means e =
+      cond-false (eqb (l .kind) 0) _ _ (ne-eqb (l .kind) 0 (λ z. omega arith)) ∙ cond-true (eqb (l .kind) 1) _ _ (eq-eqb (l .kind) 1 e)
+
+  turn-means : l .kind ≡ 2 → l .first < length hs → line-signal o n (map (value o s) hs) l ≡ turned o (value o s (getD hs (l .first) 0))
+  turn-means e h =
+      cond-false (eqb (l .kind) 0) _ _ (ne-eqb (l .kind) 0 (λ z. omega arith))
+      ∙ cond-false (eqb (l .kind) 1) _ _ (ne-eqb (l .kind) 1 (λ z. omega arith))
+      ∙ cond-true (eqb (l .kind) 2) _ _ (eq-eqb (l .kind) 2 e)
+      ∙ ap (turned o) (handle-signal (l .first) h)
+
+  join-means : 2 < l .kind → (l .kind ≡ 8 → ⊥) → l .first < length hs → l .second < length hs → line-signal o n (map (value o s) hs) l ≡ joined o (l .kind) (value o s (getD hs (l .first) 0)) (value o s (getD hs (l .second) 0))
+  join-means large other h k =
+      cond-false (eqb (l .kind) 0) _ _ (ne-eqb (l .kind) 0 (λ z. omega arith))
+      ∙ cond-false (eqb (l .kind) 1) _ _ (ne-eqb (l .kind) 1 (λ z. omega arith))
+      ∙ cond-false (eqb (l .kind) 2) _ _ (ne-eqb (l .kind) 2 (λ z. omega arith))
+      ∙ cond-false (eqb (l .kind) 8) _ _ (ne-eqb (l .kind) 8 other)
+      ∙ ap₂ (joined o (l .kind)) (handle-signal (l .first) h) (handle-signal (l .second) k)
+
 -- ---- handles with signals
 
 -- each handle is lawful and has the signal beside it
@@ -161,7 +189,7 @@ line-walked : {o : Ops} {n room : ℕ} {b : Book} {s t : Store} {P Q : Pairs} (l
 line-walked {o} {n} {room} {b} {s} {t} {P} {Q} ls hs a h before after =
     let ss = line-signals o n ls in
     let e : zipped step ss (map told hs ++ a ∷ []) ≡ zipped step ss (map told hs) ++ step (signal-at ss (length hs)) a ∷ [] =
-        zipped-more step ss (map told hs) (constant 0) a (omega (arith, length-map hs told, signals-length o n ls)) ∙ ap (λ i. zipped step ss (map told hs) ++ step (signal-at ss i) a ∷ []) (length-map hs told) in
+    zipped-more step ss (map told hs) (constant 0) a (omega (arith, length-map hs told, signals-length o n ls)) ∙ ap (λ i. zipped step ss (map told hs) ++ step (signal-at ss i) a ∷ []) (length-map hs told) in
     subst (λ x. Walked o n room b x t Q) (sym e) (walked-more (zipped step ss (map told hs)) (step (signal-at ss (length hs)) a) before after)
 
 module _ {o : Ops} (laws : Laws o) {s t : Store} (w : Well s) (v : Well t) {room : ℕ} (fits : t .used ≤ room) (P Q : Pairs) (run : Run) (refusal : Option TableFault) (r : Result ℕ TableFault) (shape : Shape s t P Q refusal r) where
@@ -196,6 +224,24 @@ module _ {o : Ops} (laws : Laws o) {s t : Store} (w : Well s) (v : Well t) {room
           ∙ line-agree o n (map (value o s) hs) (take (length hs) ss) l (signalled-at o n s hs ss (laid-signalled ls hs (omega arith) before)) p k
           ∙ ap (λ f. f p) (sym (signal-here o n ls (length hs) l h here)))
           (before .holds)
+
+  -- by kind
+  module _ (ls : List Line) (hs : List ℕ) (l : Line) (h : length hs < length ls) (here : l ≡ getD ls (length hs) l) where
+    by-meaning : (m : Signal) → line-signal o (s .inputs) (map (value o s) hs) l ≡ m → Meaning o room s t P Q m r → Kept o room (lay ls (map told hs) ∷ run) s P → Kept o room (lay ls (map told hs ++ answer-of r ∷ []) ∷ run) t Q
+    by-meaning m e meaning = kept-line ls hs l h here (subst (λ x. Meaning o room s t P Q x r) (sym e) meaning)
+
+    pub kept-input-line : l .kind ≡ 0 → Meaning o room s t P Q (signals.input (s .inputs) (l .first)) r → Kept o room (lay ls (map told hs) ∷ run) s P → Kept o room (lay ls (map told hs ++ answer-of r ∷ []) ∷ run) t Q
+    kept-input-line e = by-meaning _ (input-means o (s .inputs) s hs l e)
+
+    pub kept-constant-line : l .kind ≡ 1 → Meaning o room s t P Q (constant (l .first)) r → Kept o room (lay ls (map told hs) ∷ run) s P → Kept o room (lay ls (map told hs ++ answer-of r ∷ []) ∷ run) t Q
+    kept-constant-line e = by-meaning _ (constant-means o (s .inputs) s hs l e)
+
+    pub kept-turn-line : l .kind ≡ 2 → l .first < length hs → (x : ℕ) → x ≡ getD hs (l .first) 0 → Meaning o room s t P Q (turned o (value o s x)) r → Kept o room (lay ls (map told hs) ∷ run) s P → Kept o room (lay ls (map told hs ++ answer-of r ∷ []) ∷ run) t Q
+    kept-turn-line e k x x-is = by-meaning _ (turn-means o (s .inputs) s hs l e k ∙ ap (λ z. turned o (value o s z)) (sym x-is))
+
+    pub kept-join-line : 2 < l .kind → (l .kind ≡ 8 → ⊥) → l .first < length hs → l .second < length hs → (x y : ℕ) → x ≡ getD hs (l .first) 0 → y ≡ getD hs (l .second) 0
+        → Meaning o room s t P Q (joined o (l .kind) (value o s x) (value o s y)) r → Kept o room (lay ls (map told hs) ∷ run) s P → Kept o room (lay ls (map told hs ++ answer-of r ∷ []) ∷ run) t Q
+    kept-join-line large other k m x y x-is y-is = by-meaning _ (join-means o (s .inputs) s hs l large other k m ∙ ap₂ (λ z u. joined o (l .kind) (value o s z) (value o s u)) (sym x-is) (sym y-is))
 
 module _ {o : Ops} (laws : Laws o) {s : Store} (w : Well s) {room : ℕ} (fits : s .used ≤ room) (P : Pairs) (run : Run) (ls : List Line) (hs : List ℕ) where
   -- one line more that a test refuses

@@ -28,9 +28,9 @@ pub mod Grades
 pub mod Events
 pub mod Laying
 pub mod Comparing
-pub mod MaskLoops
 pub mod Lookups
 pub mod Finds
+pub mod Matter
 pub mod Passes
 pub mod Chooses
 pub mod Halves

@@ -1,12 +1,9 @@
 -- What the steps of the reading calls read, against the values of handles. Assumes nothing.
-use mathlib.Core.Path.{_≡_, refl, sym, ap, subst, _∙_}
-use mathlib.Core.Bool.{Bool, true, false, cond}
-use mathlib.Core.Logic.{⊎-elim}
-use Prim.Native.Nat.{ℕ, zero, suc, _+_, _*_, _%_, _^_, _<_, _≤_}
+use mathlib.Core.Path.{_≡_, sym, ap, _∙_}
+use mathlib.Core.Bool.{Bool, true}
+use Prim.Native.Nat.{ℕ, _<_, _≤_}
 use native.Mathlib.Omega.{arith}
-use lib.Bits.{bitOr}
 use lib.Dec.{eqb}
-use Rattle.std.proofs.shelf.Bits.{one-shl}
 use Rattle.std.proofs.shelf.Tests.{cond-true, cond-false, eq-eqb, ne-eqb}
 use Rattle.std.specs.Orderings.{Decides}
 use Rattle.std.specs.declared.option.Option.{Option}
@@ -16,10 +13,10 @@ use Rattle.netlist.specs.Signals.{bit}
 use Rattle.diagram.specs.declared.fault.TableFault.{TableFault}
 use Rattle.diagram.specs.declared.record.Record.{Record}
 use Rattle.diagram.specs.Faults.{test}
-use Rattle.diagram.specs.Stores.{Store, place, side, side-on, up}
+use Rattle.diagram.specs.Stores.{Store, place, side-on, up}
 use Rattle.diagram.specs.Rules.{Well, Sound, Lawful, Occurs}
 use Rattle.diagram.specs.Changes.{Within}
-use Rattle.diagram.specs.Marks.{turn-below, reach-of}
+use Rattle.diagram.specs.Marks.{reach-of}
 use Rattle.diagram.proofs.Values.{side-before}
 use Rattle.diagram.proofs.Reaches.{reach-right}
 use Rattle.diagram.proofs.Shapes.{place-below}
@@ -47,25 +44,6 @@ side-on-before {s} w h p g u =
 
 pub side-on-within : {s : Store} (w : Well s) (h p : ℕ) → 16 ≤ h → Within s h → Within s (side-on s h p)
 side-on-within w h p g u = omega (arith, side-on-before w h p g u)
-
--- one value more of a mask's NOT
-pub turned-none : (o : Ops) (m : ℕ) → 0 ≡ turn-below o m 0
-unfolding turn-below
-turned-none o m = refl
-
-plus-one : (x : ℕ) → x + 1 ≡ suc x
-plus-one x = omega arith
-
-module _ {o : Ops} (laws : Laws o) (m v x y : ℕ) (before : x ≡ turn-below o m v) where
-  pub turned-up : (u : ℕ) → u ≡ o .turn v → y ≡ bitOr x ((1 * 2 ^ u) % 2 ^ 16) → up m v ≡ true → y ≡ turn-below o m (v + 1)
-  unfolding turn-below
-  turned-up u turn e set =
-      let d : (1 * 2 ^ u) % 2 ^ 16 ≡ 2 ^ o .turn v = one-shl u 16 (omega (arith, laws .turn-below v, laws .sixteen-at-most)) ∙ ap (λ k. 2 ^ k) turn in
-      e ∙ ap (bitOr x) d ∙ ap (λ k. bitOr k (2 ^ o .turn v)) before ∙ sym (ap (turn-below o m) (plus-one v) ∙ cond-true (up m v) _ _ set)
-
-  pub turned-down : y ≡ x → up m v ≡ false → y ≡ turn-below o m (v + 1)
-  unfolding turn-below
-  turned-down e down = e ∙ before ∙ sym (ap (turn-below o m) (plus-one v) ∙ cond-false (up m v) _ _ down)
 
 -- the reach of a lawful handle says which values it has
 pub reach-decides : {o : Ops} → Laws o → {s : Store} (w : Well s) → Sound o s → (h m v : ℕ) → Lawful o s h → m ≡ reach-of o s h → Decides (up m v) (Occurs o s h v)

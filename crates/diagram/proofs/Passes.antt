@@ -10,21 +10,19 @@ use lib.Bits.{bitAnd, bitOr, and-shr, and-mod, and-le-r, or-lt}
 use lib.Dec.{eqb, ltb}
 use lib.Pow.{pow-pos}
 use Rattle.std.proofs.shelf.Bits.{pow-below}
-use Rattle.std.proofs.shelf.Tests.{cases-lt, cases-bool, cond-true, cond-false, cond-both, eqb-true, eqb-false, lt-ltb, le-ltb, eq-eqb, ne-eqb, and-parts, and-from, and-cases, or-cases, or-left, or-right, not-true, not-false, not-from-true, not-from-false, both-ways}
+use Rattle.std.proofs.shelf.Tests.{cases-lt, cases-bool, cond-true, cond-false, cond-both, eqb-true, eqb-false, lt-ltb, le-ltb, eq-eqb, and-cases, or-cases, or-left, or-right, not-true, not-from-false}
 use Rattle.std.proofs.shelf.Ways.{same-from-decides}
-use Rattle.std.specs.Orderings.{Decides}
 use Rattle.algebra.specs.Ops.{Ops}
-use Rattle.netlist.specs.Signals.{bit}
 use Rattle.netlist.specs.Parts.{all-below}
 use Rattle.diagram.specs.declared.codes.Codes.{Codes}
 use Rattle.diagram.specs.declared.record.Record.{Record}
 use Rattle.diagram.specs.Stores.{Store, place, marked, up}
 use Rattle.diagram.specs.Rules.{settled-code, firm-code, settled-mask, firm-mask, may-mark, lawful}
 use Rattle.diagram.specs.Marks.{negate, turn-below, turn-mask, reach-of, union, leads-plain, lead, turns, kept}
-use Rattle.diagram.specs.Codes.{mask-below, loose-codes, firm-codes, codes-of}
+use Rattle.diagram.specs.Codes.{mask-below, codes-of}
 use Rattle.diagram.proofs.Bits.{same-bits}
 use Rattle.diagram.proofs.Masks.{all-at, all-from}
-use Rattle.diagram.proofs.Reaches.{up-none, up-one, up-only, up-union, up-union-left, up-union-right, up-union-cases}
+use Rattle.diagram.proofs.Reaches.{up-none, up-one, up-only, up-union, up-union-right}
 
 and-digits : (x y : ℕ) → x < 2 → y < 2 → eqb (bitAnd x y) 1 ≡ (eqb x 1 && eqb y 1)
 and-digits x y l m =
@@ -115,9 +113,10 @@ meets-none : (f : ℕ → Bool) (m : ℕ) → eqb (bitAnd m (mask-below f 16)) 0
 meets-none f m =
     let k = mask-below f 16 in
     let g : ℕ → Bool = λ v. not (up m v) || not (f v) in
-    same-from-decides {P = (v : ℕ) → v < 16 → g v ≡ true} (eqb (bitAnd m k) 0) (all-below 16 g)
-    (λ e v l. apart-at v l (ap (λ z. up z v) (eqb-true (bitAnd m k) 0 e) ∙ up-none v),
-     λ h. eq-eqb (bitAnd m k) 0 (no-bits (bitAnd m k) (omega (arith, and-le-r m k, mask-fits f 16 (omega arith))) (λ v l. down-at v l (h v l))))
+    same-from-decides {P = (v : ℕ) → v < 16 → g v ≡ true} (eqb (bitAnd m k) 0) (all-below 16 g) (
+      λ e v l. apart-at v l (ap (λ z. up z v) (eqb-true (bitAnd m k) 0 e) ∙ up-none v),
+      λ h. eq-eqb (bitAnd m k) 0 (no-bits (bitAnd m k) (omega (arith, and-le-r m k, mask-fits f 16 (omega arith))) (λ v l. down-at v l (h v l))),
+    )
     (λ e v l. all-at 16 g e v l, all-from 16 g)
   where
     apart-at : (v : ℕ) → v < 16 → up (bitAnd m (mask-below f 16)) v ≡ false → (not (up m v) || not (f v)) ≡ true

@@ -1,15 +1,13 @@
 -- One step of the walk over two handles, by what its two halves and the record made of them come to. Assumes nothing.
-use mathlib.Core.Path.{_≡_, refl, sym, ap, _∙_, subst}
-use mathlib.Core.Bool.{Bool, true, false, cond}
-use mathlib.Core.List.{List, [], _∷_}
-use mathlib.Core.Logic.{_⊎_, inl, inr, ⊎-elim}
-use Prim.Native.Nat.{ℕ, zero, suc, _+_, _^_, _<_, _≤_, min}
+use mathlib.Core.Path.{_≡_, sym, ap, _∙_, subst}
+use mathlib.Core.Bool.{true}
+use mathlib.Core.List.{[], _∷_}
+use mathlib.Core.Logic.{_⊎_, inl, ⊎-elim}
+use Prim.Native.Nat.{ℕ, zero, suc, _+_, _^_, _<_, _≤_}
 use native.Mathlib.Omega.{arith}
 use lib.Dec.{eqb}
-use lib.ListN.{length}
 use lib.Pow.{pow-pos, pow-add}
-use Rattle.std.proofs.shelf.Tests.{cases-lt, cases-bool, cases-eq, cond-true, cond-false, cond-both, eq-eqb, ne-eqb, false≢true}
-use Rattle.std.specs.declared.option.Option.{Option}
+use Rattle.std.proofs.shelf.Tests.{cases-lt, cases-eq, cond-true, cond-false, cond-both, eq-eqb, ne-eqb, false≢true}
 use Rattle.std.specs.declared.option.Option.the-variants.{Some, None}
 use Rattle.std.specs.declared.result.Result.{Result}
 use Rattle.std.specs.declared.result.Result.the-variants.{Ok, Err}
@@ -17,22 +15,21 @@ use Rattle.std.specs.Results.{isErr}
 use Rattle.algebra.specs.Ops.{Ops}
 use Rattle.algebra.specs.Laws.{Laws}
 use Rattle.netlist.specs.Signals.{Signal, Agree, bit}
-use Rattle.netlist.specs.Parts.{part, is-constant}
-use Rattle.diagram.specs.Stores.{Store, handle, level, value}
+use Rattle.netlist.specs.Parts.{part}
+use Rattle.diagram.specs.Stores.{Store, handle, value}
 use Rattle.diagram.specs.Rules.{Well, Sound, Lawful, settled-mask}
-use Rattle.diagram.specs.Changes.{Within, Grows}
+use Rattle.diagram.specs.Changes.{Grows}
 use Rattle.diagram.specs.Marks.{choice, negate, reach-of}
 use Rattle.diagram.specs.Makings.{Chosen, Crowded}
 use Rattle.diagram.specs.Memos.{Pairs, Puts}
-use Rattle.diagram.specs.Counts.{One-part, Part-of, Part-in, nth}
+use Rattle.diagram.specs.Counts.{One-part, Part-of, Part-in}
 use Rattle.diagram.specs.Outcomes.{True-pair, True-pairs, Result-of}
 use Rattle.diagram.specs.declared.fault.Full.{Full}
 use Rattle.diagram.specs.Walks.{combine, combined, Ran-out, Walk-shape, Walk-means}
-use Rattle.diagram.proofs.Bits.{fixed}
-use Rattle.diagram.proofs.Alike.{agree-refl, agree-sym}
+use Rattle.diagram.proofs.Alike.{agree-refl}
 use Rattle.diagram.proofs.Pieces.{part-trans, part-of-itself, part-of-agree}
 use Rattle.diagram.proofs.Counting.{part-in-one}
-use Rattle.diagram.proofs.Values.{level-grows, within-grows, lawful-constant, lawful-within, lawful-grows, constant-lawful, value-constant, value-grows, codes}
+use Rattle.diagram.proofs.Values.{lawful-within, lawful-grows, constant-lawful, value-constant, value-grows, codes}
 use Rattle.diagram.proofs.Moves.{pattern-moved}
 use Rattle.diagram.proofs.Masks.{mask-settled}
 use Rattle.diagram.proofs.Reaches.{reach-right}
@@ -163,9 +160,13 @@ later o n {t} {v} w grows u r part p l x =
 
 module _ {o : Ops} (laws : Laws o) {s : Store} (w : Well s) (k x y i x0 x1 y0 y1 : ℕ) (cut : Halved o s x y i x0 x1 y0 y1) (sound : Sound o s) (lx : Lawful o s x) (ly : Lawful o s y) where
   half-part : (b x′ y′ : ℕ) → b < 2 → Half o s i b x x′ → Half o s i b y y′ → Part-of (s .inputs) (combined o s k x′ y′) (combined o s k x y)
-  half-part b x′ y′ few a c =
-      (i + 1, b, (let l = cut .inside in omega arith), omega (arith, pow-add 2 i 1, pow-pos i),
-       λ p l. combine-same o k _ _ _ _ (a .value-is sound lx p l) (c .value-is sound ly p l))
+  half-part b x′ y′ few a c = (
+    i + 1,
+    b,
+    (let l = cut .inside in omega arith),
+    omega (arith, pow-add 2 i 1, pow-pos i),
+    λ p l. combine-same o k _ _ _ _ (a .value-is sound lx p l) (c .value-is sound ly p l),
+  )
 
   low-part : Part-of (s .inputs) (combined o s k x0 y0) (combined o s k x y)
   low-part = half-part 0 x0 y0 (omega arith) (cut .low) (cut .low-other)

@@ -18,4 +18,5 @@ pub mod Recalls
 pub mod Faults
 pub mod Outcomes
 pub mod Runs
+pub mod Supports
 pub mod Walks

@@ -118,6 +118,11 @@ kept-pairs (told h ∷ xs) = suc (kept-pairs xs)
 kept-pairs (full ∷ xs) = 0
 kept-pairs (refused ∷ xs) = 0
 
+-- Two booked handles are equal exactly when their signals agree on every pattern.
+abbrev pub One-number : ℕ → Book → Type 0
+One-number n b =
+    All (λ e. All (λ f. (e .number ≡ f .number → Agree n (e .signal) (f .signal)) × (Agree n (e .signal) (f .signal) → e .number ≡ f .number)) b) b
+
 module _ (o : Ops) (n : ℕ) where
   -- The single results of an event, in order.
   abbrev pub steps : Book → Event → List Step
@@ -154,9 +159,10 @@ module _ (o : Ops) (n : ℕ) where
   -- result's, outnumber the places,
   abbrev pub Judged : ℕ → Book → Step → Type 0
   Judged room b s = elim (s .answer) [
-      told h ↦ part-count o n (s .result ∷ book-signals b) ≤ room
+    | told h ↦ part-count o n (s .result ∷ book-signals b) ≤ room
     | full ↦ room < part-count o n (s .result ∷ book-signals b)
-    | refused ↦ Unit {0} ]
+    | refused ↦ Unit {0}
+  ]
 
   unfoldable pub All-judged : ℕ → Book → List Step → Type 0
   All-judged room b [] = Unit {0}
@@ -178,10 +184,9 @@ module _ (o : Ops) (n : ℕ) where
   All-true room [] = Unit {0}
   All-true room (e ∷ es) = All-judged room (book es) (steps (book es) e) × True-findings (book es) e × All-true room es
 
-  -- two booked handles are equal exactly when their signals agree on every pattern, and the places in use are the
-  -- different parts of the booked signals.
+  -- each booked signal has one number, and the places in use are the different parts of the booked signals.
   pub record Found (room used : ℕ) (run : Run) : Type 0 where
-    pub one-number : All (λ e. All (λ f. (e .number ≡ f .number → Agree n (e .signal) (f .signal)) × (Agree n (e .signal) (f .signal) → e .number ≡ f .number)) (book run)) (book run)
+    pub one-number : One-number n (book run)
     pub exact-places : used ≡ part-count o n (book-signals (book run))
     pub all-true : All-true room run
 

@@ -1,7 +1,7 @@
 -- What the walk over two handles asks, answers and leaves. Assumes nothing.
 use mathlib.Core.Path.{_≡_}
 use mathlib.Core.Bool.{false, cond}
-use mathlib.Core.List.{List, [], _∷_}
+use mathlib.Core.List.{[], _∷_}
 use Prim.Native.Nat.{ℕ, _<_, _≤_, min}
 use lib.Dec.{eqb}
 use Rattle.std.specs.declared.result.Result.{Result}

@@ -1,5 +1,6 @@
 mod masks;
 
+pub(crate) use masks::is_up;
 pub(crate) use masks::turn_mask;
 
 // Masks of the codes of an algebra: those that are not settled, and those that are firm, settled and different from

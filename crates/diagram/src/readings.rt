@@ -9,25 +9,29 @@ ghost use Rattle.diagram.specs.Marks.{reach-of};
 ghost use Rattle.diagram.specs.Rules.{Placed, Sound, Occurs, lawful};
 ghost use Rattle.diagram.specs.Stores.{place, side-on, under-mark, value, up};
 ghost use Rattle.diagram.specs.Views.{view};
+use crate::codes::Codes;
 use crate::fault::TableFault;
 use crate::handle::is_constant;
 use crate::handle::is_marked;
 use crate::handle::place_of;
-use crate::lawful::may_mark;
-use crate::lawful::turned_mask;
 use crate::record::Record;
 use crate::table::Table;
 use algebra::Algebra;
 use netlist::Pattern;
 
 mod find;
+mod support;
 
 // The NOT of a value where the handle is marked.
 fn under_mark<G: Algebra>(algebra: &G, h: u32, code: u8) -> u8
     requires { ⌜ 16 ≤ h ⌝ }
     ensures { λ r. ⌜ r ≡ under-mark ops h code ⌝ }
 {
-    if is_marked(h) { algebra.turn(code) } else { code }
+    if is_marked(h) {
+        algebra.turn(code)
+    } else {
+        code
+    }
 }
 
 impl Table {
@@ -35,14 +39,7 @@ impl Table {
     pub fn is_lawful<G: Algebra>(&self, algebra: &G, h: u32) -> bool
         ensures { λ r. ⌜ r ≡ lawful ops (view (now (self .entry))) h ⌝ }
     {
-        if is_constant(h) {
-            return h < algebra.value_count() as u32;
-        }
-        let p = place_of(h);
-        if p >= self.used() {
-            return false;
-        }
-        !is_marked(h) || may_mark(algebra, self.record_at(p).reach)
+        self.lawful(algebra, Codes::of(algebra), h)
     }
 
     // The record of a handle that is no constant.
@@ -63,7 +60,11 @@ impl Table {
         ensures { λ r. ⌜ r ≡ side-on (view (now (self .entry))) h (pattern .number) ⌝ }
     {
         let record = self.record_of(h);
-        if pattern.bit(record.input) == 1 { record.high } else { record.low }
+        if pattern.bit(record.input) == 1 {
+            record.high
+        } else {
+            record.low
+        }
     }
 
     // Goes down by the pattern's bits to a constant, and turns it back up under each mark on the way.
@@ -92,18 +93,6 @@ impl Table {
         Ok(self.value_in_use(algebra, h, pattern))
     }
 
-    // The mask of the values of a handle in use.
-    pub(crate) fn reach_in_use<G: Algebra>(&self, algebra: &G, h: u32) -> u16
-        requires { ⌜ Within (view (now self)) h ⌝ }
-        ensures { λ r. ⌜ r ≡ reach-of ops (view (now (self .entry))) h ⌝ }
-    {
-        if is_constant(h) {
-            return 1 << h;
-        }
-        let reach = self.record_at(place_of(h)).reach;
-        if is_marked(h) { turned_mask(algebra, reach) } else { reach }
-    }
-
     // The mask of the values that a handle has: bit v is up if it has the value v on some pattern.
     pub fn reach<G: Algebra>(&self, algebra: &G, h: u32) -> Result<u16, TableFault>
         ensures mask { λ r. ⌜ r ≡ unless-refused (reach-refusal ops (view (now (self .entry))) h) (reach-of ops (view (now (self .entry))) h) ⌝ }
@@ -112,6 +101,6 @@ impl Table {
         if !self.is_lawful(algebra, h) {
             return Err(TableFault::NoSuchHandle);
         }
-        Ok(self.reach_in_use(algebra, h))
+        Ok(self.reach_of(algebra, h))
     }
 }

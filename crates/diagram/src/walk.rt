@@ -32,7 +32,16 @@ fn leaf<G: Algebra>(algebra: &G, op: u8, x: u8, y: u8) -> u8
 // The operator `op` of two handles, or NOT of the first. Both are split at the input that either tests first; the walk goes
 // down the 0 sides, then the 1 sides, and makes the record of the two. Each level has the first of its rows, and lends the
 // others to the next.
-pub(crate) fn walk<G: Algebra, M: Memo>(table: &mut Table, algebra: &G, codes: Codes, memo: &mut M, rows: &mut [Row], op: u8, x: u32, y: u32) -> Result<u32, Full>
+pub(crate) fn walk<G: Algebra, M: Memo>(
+    table: &mut Table,
+    algebra: &G,
+    codes: Codes,
+    memo: &mut M,
+    rows: &mut [Row],
+    op: u8,
+    x: u32,
+    y: u32,
+) -> Result<u32, Full>
     requires codes { ⌜ codes ≡ codes-of ops ⌝ }
     requires x { ⌜ Within (view (now table)) x ⌝ }
     requires y { ⌜ Within (view (now table)) y ⌝ }

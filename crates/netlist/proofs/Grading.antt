@@ -112,7 +112,7 @@ module _ (o : Ops) (laws : Laws o) where
   zero-not-listed : listed (o .grave) 0 ≡ false
   zero-not-listed = listed-not (o .grave) 0 (laws .grave-heavy)
 
-  grade-listed : (a b : ℕ) → (o .op 9 a b ≡ 0 → ⊥) → listed (o .grave) (o .op 9 a b) ≡ true
+  pub grade-listed : (a b : ℕ) → (o .op 9 a b ≡ 0 → ⊥) → listed (o .grave) (o .op 9 a b) ≡ true
   grade-listed a b h =
       let x = read (o .count) a in
       let y = read (o .count) b in

@@ -9,3 +9,4 @@ pub mod Zips
 pub mod PairGrades
 pub mod OutValues
 pub mod TwoParts
+pub mod Graded

@@ -8,5 +8,6 @@ pub mod FaultNumbers
 pub mod Evaluations
 pub mod Findings
 pub mod Orders
+pub mod Verdicts
 pub mod Comparisons
 pub mod Cases

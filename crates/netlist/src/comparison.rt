@@ -12,6 +12,9 @@ ghost use Rattle.netlist.specs.Faults.{first-fault};
 ghost use Rattle.netlist.specs.Evaluations.{values-at};
 ghost use Rattle.netlist.specs.Findings.{finding-below, findings, findings-below, zipped};
 ghost use Rattle.netlist.specs.Comparisons.{Accepted, Refused};
+ghost use Rattle.netlist.specs.Verdicts.{Verdict, out-signal};
+ghost use Rattle.netlist.specs.declared.finding.Finding.the-variants.{Clean};
+ghost use Rattle.std.specs.Vec.{made};
 ghost use Rattle.netlist.specs.Orders.{before};
 use crate::evaluation::check_lines;
 use crate::evaluation::fill_values;
@@ -32,13 +35,13 @@ pub fn count_outs(lines: &[Line]) -> usize
     ensures value { λ r. ⌜ r ≡ out-count (now (lines .entry)) ⌝ }
     ensures few { λ r. ⌜ r ≤ length (now (lines .entry)) ⌝ }
 {
-    let mut count = 0;
+    let mut outs = 0;
     for line in lines {
         if line.kind == OUT {
-            count += 1;
+            outs += 1;
         }
     }
-    count
+    outs
 }
 
 // Moves the values of the OUT lines to the front, in order.
@@ -222,6 +225,7 @@ pub fn compare_by_patterns<G: Algebra>(
     ensures answer { λ r. ⌜ ByOk r
         (λ pairs. (pairs ≡ out-count (now (first .entry))) × Accepted ops inputs (now (first .entry)) (now (second .entry)) (length (now (values .entry))) (length (now (found .entry))) × (now (found .exit) ≡ findings ops inputs (now (first .entry)) (now (second .entry)) ++ drop pairs (now (found .entry))))
         (λ e. Refused ops inputs (now (first .entry)) (now (second .entry)) (length (now (values .entry))) (length (now (found .entry))) e × (now (found .exit) ≡ now (found .entry)) × (now (values .exit) ≡ now (values .entry))) ⌝ }
+    ensures verdicts { λ r. ⌜ made r (λ pairs. (k : ℕ) → k < pairs → Verdict ops inputs (out-signal ops inputs (now (first .entry)) k) (out-signal ops inputs (now (second .entry)) k) (getD (now (found .exit)) k Clean)) ⌝ }
     ensures rest { λ _. ⌜ drop (length (now (first .entry)) + length (now (second .entry))) (now (values .exit)) ≡ drop (length (now (first .entry)) + length (now (second .entry))) (now (values .entry)) ⌝ }
 {
     let pairs = check_comparison(algebra, inputs, first, second, values.len(), found.len())?;

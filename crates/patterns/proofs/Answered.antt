@@ -9,7 +9,8 @@ use lib.ListN.{length, take, drop, length-replicate}
 use Rattle.std.proofs.shelf.Lists.{take-at}
 use Rattle.std.proofs.shelf.Tests.{cond-true, cond-false, eq-eqb, ne-eqb}
 use Rattle.std.specs.declared.option.Option.{Option}
-use Rattle.std.specs.declared.result.Result.the-variants.{Err}
+use Rattle.std.specs.declared.result.Result.{Result}
+use Rattle.std.specs.declared.result.Result.the-variants.{Ok, Err}
 use Rattle.algebra.specs.Ops.{Ops}
 use Rattle.algebra.specs.Five.{five}
 use Rattle.algebra.specs.Two.{two}
@@ -54,3 +55,30 @@ module _ (bytes : List ℕ) (x x′ y y′ : List Line) (ex : x ≡ blank-lines)
       ∙ ap (λ l. compared (algebra-of (pair .first .values)) (pair .first .inputs) (a2 .both .first .lines) l) ms
       in
       subst (λ t. Prints bytes t) (sym same) (read x′ y′ pair a2)
+
+  -- nothing else is printed where the reading is the only one
+  module _ (r : Result Pair PairFault) (only : (x″ y″ : List Line) (q : Result Pair PairFault) → PairReading bytes x x″ y y″ q → (q ≡ r) × (x″ ≡ x′) × (y″ ≡ y′)) where
+    again : (x″ y″ : List Line) (q : Result Pair PairFault) → PairReading bytes blank-lines x″ blank-lines y″ q → (q ≡ r) × (x″ ≡ x′) × (y″ ≡ y′)
+    again x″ y″ q p =
+        only x″ y″ q (subst (λ z. PairReading bytes z x″ y y″ q) (sym ex) (subst (λ z. PairReading bytes blank-lines x″ z y″ q) (sym ey) p))
+
+    pub only-fault : (f : PairFault) (text : List ℕ) → r ≡ Err f → text ≡ fault-row (pair-fault-number f) (pair-fault-netlist f) (pair-fault-line f) → (t : List ℕ) → Prints bytes t → t ≡ text
+    only-fault f text er e t (misread x″ y″ g p) =
+        let same : g ≡ f = (let q = again x″ y″ (Err g) p .0 in cc) in
+        ap (λ h. fault-row (pair-fault-number h) (pair-fault-netlist h) (pair-fault-line h)) same ∙ sym e
+    only-fault f text er e t (read x″ y″ pair a) = absurd (let z : _≡_ {A = ℕ} 0 1 = (let q = again x″ y″ (Ok pair) a .0 in cc) in omega arith)
+
+    pub only-pair : (pair : Pair) (o : Ops) (text : List ℕ) → r ≡ Ok pair → o ≡ algebra-of (pair .first .values) → text ≡ compared o (pair .first .inputs) (take (pair .first .lines - 0) x′) (take (pair .second .lines - 0) y′) → (t : List ℕ) → Prints bytes t → t ≡ text
+    only-pair pair o text er eo e t (misread x″ y″ g p) = absurd (let z : _≡_ {A = ℕ} 0 1 = (let q = again x″ y″ (Err g) p .0 in cc) in omega arith)
+    only-pair pair o text er eo e t (read x″ y″ other a) =
+        let q = again x″ y″ (Ok other) a in
+        let same : other ≡ pair = (let k = q .0 in cc) in
+        let ls = lines-read bytes _ _ x″ (other .first) (a .both .first) in
+        let ms = lines-read bytes _ _ y″ (other .second) (a .both .second) in
+        ap (λ l. compared (algebra-of (other .first .values)) (other .first .inputs) l (a .both .second .lines)) (sym ls)
+        ∙ ap (λ l. compared (algebra-of (other .first .values)) (other .first .inputs) (take (other .first .lines - 0) x″) l) (sym ms)
+        ∙ ap (λ z. compared (algebra-of (z .first .values)) (z .first .inputs) (take (z .first .lines - 0) x″) (take (z .second .lines - 0) y″)) same
+        ∙ ap (λ z. compared (algebra-of (pair .first .values)) (pair .first .inputs) (take (pair .first .lines - 0) z) (take (pair .second .lines - 0) y″)) (q .1)
+        ∙ ap (λ z. compared (algebra-of (pair .first .values)) (pair .first .inputs) (take (pair .first .lines - 0) x′) (take (pair .second .lines - 0) z)) (q .2)
+        ∙ ap (λ z. compared z (pair .first .inputs) (take (pair .first .lines - 0) x′) (take (pair .second .lines - 0) y′)) (sym eo)
+        ∙ sym e

@@ -1,6 +1,6 @@
 ghost use mathlib.Core.Path.{_≡_};
-ghost use mathlib.Core.List.{_++_};
-ghost use Prim.Native.Nat.{_≤_, _^_};
+ghost use mathlib.Core.List.{List, _++_};
+ghost use Prim.Native.Nat.{ℕ, _≤_, _^_};
 ghost use lib.ListN.{length, take};
 ghost use Rattle.netlist.specs.FaultNumbers.{comparison-fault-number, comparison-fault-netlist, comparison-fault-line};
 ghost use Rattle.text.specs.declared.writer.Summary.the-variants.{Tried};
@@ -31,6 +31,9 @@ use text::write_summary;
 const LINES: usize = 512;
 
 const BYTES: usize = 40_000;
+
+// With more inputs there are too many patterns to try.
+const INPUTS: u8 = 16;
 
 const BLANK: Line = Line {
     kind: 0,
@@ -118,7 +121,7 @@ fn put_comparison<G: Algebra>(
     ensures within { λ r. ⌜ r ≤ 40000 ⌝ }
     ensures text { λ r. ⌜ take r (now (out .exit)) ≡ compared ops inputs (now (first .entry)) (now (second .entry)) ⌝ }
 {
-    if inputs > 16 {
+    if inputs > INPUTS {
         return match check_comparison(
             algebra,
             inputs,
@@ -153,6 +156,7 @@ fn put_answer(
     requires out { ⌜ length (now out) ≡ 40000 ⌝ }
     ensures within { λ r. ⌜ r ≤ 40000 ⌝ }
     ensures text { λ r. ⌜ Prints (now (input .entry)) (take r (now (out .exit))) ⌝ }
+    ensures only { λ r. ⌜ ((t : List ℕ) → Prints (now (input .entry)) t → t ≡ take r (now (out .exit))) ⌝ }
 {
     match read_pair(input, first, second) {
         Err(fault) => put_fault(out, fault.number(), fault.netlist(), fault.line()),
@@ -169,9 +173,9 @@ fn put_answer(
     }
 }
 
-// What is printed for an input.
+// What is printed for an input, and nothing else may be printed for it.
 pub fn answer(heap: Global, input: &[u8]) -> Result<Vec<u8>, AllocError>
-    ensures { λ r. ⌜ made r (λ v. Prints (now (input .entry)) (vec-items v)) ⌝ }
+    ensures { λ r. ⌜ made r (λ v. Prints (now (input .entry)) (vec-items v) × ((t : List ℕ) → Prints (now (input .entry)) t → t ≡ vec-items v)) ⌝ }
 {
     let mut first = vec![in heap; BLANK; LINES]?;
     let mut second = vec![in heap; BLANK; LINES]?;

@@ -6,11 +6,19 @@ ghost use lib.Dec.{eqb};
 ghost use Rattle.diagram.specs.Codes.{codes-of};
 ghost use Rattle.diagram.specs.Marks.{turn-mask};
 ghost use Rattle.diagram.specs.Rules.{settled-code, firm-code};
+ghost use Rattle.diagram.specs.Stores.{up};
 use super::Codes;
 use algebra::Algebra;
 
 // How many codes there can be.
 const MOST_CODES: u8 = 16;
+
+pub(crate) fn is_up(mask: u16, v: u8) -> bool
+    requires { ⌜ v < 16 ⌝ }
+    ensures { λ r. ⌜ r ≡ up mask v ⌝ }
+{
+    (mask >> v) % 2 == 1
+}
 
 fn is_settled_code<G: Algebra>(algebra: &G, v: u8) -> bool
     ensures { λ r. ⌜ r ≡ settled-code ops v ⌝ }
@@ -38,7 +46,7 @@ pub(crate) fn turn_mask<G: Algebra>(algebra: &G, mask: u16) -> u16
 {
     let mut turned = 0;
     for v in 0..MOST_CODES {
-        turned = with(turned, algebra.turn(v), (mask >> v) % 2 == 1);
+        turned = with(turned, algebra.turn(v), is_up(mask, v));
     }
     turned
 }

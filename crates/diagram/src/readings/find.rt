@@ -12,9 +12,9 @@ ghost use Rattle.diagram.specs.Rules.{Sound, Lawful, Occurs};
 ghost use Rattle.diagram.specs.Stores.{level, value, up};
 ghost use Rattle.diagram.specs.Views.{view};
 use super::under_mark;
+use crate::codes::is_up;
 use crate::fault::TableFault;
 use crate::handle::is_constant;
-use crate::lawful::is_up;
 use crate::table::Table;
 use algebra::Algebra;
 
@@ -41,7 +41,7 @@ impl Table {
         }
         let record = self.record_of(h);
         let below = under_mark(algebra, h, wanted);
-        if is_up(self.reach_in_use(algebra, record.low), below) {
+        if is_up(self.reach_of(algebra, record.low), below) {
             return self.first_in_use(algebra, record.low, below);
         }
         let rest = self.first_in_use(algebra, record.high, below);
@@ -49,7 +49,12 @@ impl Table {
     }
 
     // The first pattern on which a handle has the wanted value; none exactly if the value's bit of its reach is down.
-    pub fn find<G: Algebra>(&self, algebra: &G, h: u32, wanted: u8) -> Result<Option<u64>, TableFault>
+    pub fn find<G: Algebra>(
+        &self,
+        algebra: &G,
+        h: u32,
+        wanted: u8,
+    ) -> Result<Option<u64>, TableFault>
         ensures refusal { λ r. ⌜ refusal-of r ≡ find-refusal ops (view (now (self .entry))) h wanted ⌝ }
         ensures shape { λ r. ⌜ made r (λ x. BySome x
             (up (reach-of ops (view (now (self .entry))) h) wanted ≡ false)
@@ -63,7 +68,7 @@ impl Table {
         if wanted >= algebra.value_count() {
             return Err(TableFault::NoSuchCode);
         }
-        if !is_up(self.reach_in_use(algebra, h), wanted) {
+        if !is_up(self.reach_of(algebra, h), wanted) {
             return Ok(None);
         }
         Ok(Some(self.first_in_use(algebra, h, wanted)))

@@ -3,10 +3,12 @@ ghost use mathlib.Core.List.{[]};
 ghost use Prim.Native.Nat.{_≤_, min};
 ghost use Rattle.std.specs.Vec.{made};
 ghost use Rattle.diagram.specs.Changes.{Grows};
+ghost use Rattle.diagram.specs.Memos.{No-pairs};
 ghost use Rattle.diagram.specs.Steps.{Fits, Adds, Back};
 ghost use Rattle.diagram.specs.Stores.{store};
 ghost use Rattle.diagram.specs.Views.{view, room};
 use super::Table;
+use crate::memo::Memo;
 use crate::places::Places;
 use crate::record::Record;
 use std::alloc::AllocError;
@@ -48,5 +50,16 @@ impl Table {
         ensures room { λ _. ⌜ room (now (self .exit)) ≡ room (now (self .entry)) ⌝ }
     {
         self.places.truncate(used);
+    }
+
+    // Back to the first `used` places; the memo forgets, since its pairs may name places that are gone.
+    pub(crate) fn cut_back<M: Memo>(&mut self, memo: &mut M, used: usize)
+        requires { ⌜ used ≤ view (now self) .used ⌝ }
+        ensures back { λ _. ⌜ Back (view (now (self .entry))) used (view (now (self .exit))) ⌝ }
+        ensures memo { λ _. ⌜ No-pairs (recalls (now (memo .exit))) ⌝ }
+        ensures room { λ _. ⌜ room (now (self .exit)) ≡ room (now (self .entry)) ⌝ }
+    {
+        self.truncate(used);
+        memo.clear();
     }
 }

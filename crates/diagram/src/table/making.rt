@@ -29,7 +29,11 @@ struct Kept {
 fn lead_side(codes: Codes, low_reach: u16, low: u32, high: u32) -> u32
     ensures { λ r. ⌜ r ≡ cond (not (eqb (bitAnd «low_reach» (codes .firm)) 0)) low high ⌝ }
 {
-    if codes.some_firm(low_reach) { low } else { high }
+    if codes.some_firm(low_reach) {
+        low
+    } else {
+        high
+    }
 }
 
 // Whether a record with this reach is kept under NOT.
@@ -52,7 +56,12 @@ impl Table {
         let lead = lead_side(codes, low_reach, low, high);
         let turned = is_turned(algebra, codes, reach, lead);
         if !turned {
-            let record = Record { low, high, reach, input };
+            let record = Record {
+                low,
+                high,
+                reach,
+                input,
+            };
             return Kept { record, turned };
         }
         let record = Record {
@@ -65,7 +74,14 @@ impl Table {
     }
 
     // The handle that is `low` where the input's bit is down and `high` where it is up. At most one place is taken.
-    pub(crate) fn make<G: Algebra>(&mut self, algebra: &G, codes: Codes, input: u8, low: u32, high: u32) -> Result<u32, Full>
+    pub(crate) fn make<G: Algebra>(
+        &mut self,
+        algebra: &G,
+        codes: Codes,
+        input: u8,
+        low: u32,
+        high: u32,
+    ) -> Result<u32, Full>
         requires codes { ⌜ codes ≡ codes-of ops ⌝ }
         requires inside { ⌜ input < view (now self) .inputs ⌝ }
         requires low { ⌜ Beyond (view (now self)) input low ⌝ }

@@ -1,6 +1,5 @@
 // NOT of a handle, and the values that a handle has.
 ghost use mathlib.Core.Path.{_≡_};
-ghost use mathlib.Core.Bool.{cond};
 ghost use Prim.Native.Nat.{_<_, _≤_};
 ghost use Rattle.diagram.specs.Changes.{Within};
 ghost use Rattle.diagram.specs.Codes.{codes-of};
@@ -60,7 +59,11 @@ impl Table {
             return 1 << h;
         }
         let reach = self.record_at(place_of(h)).reach;
-        if is_marked(h) { turn_mask(algebra, reach) } else { reach }
+        if is_marked(h) {
+            turn_mask(algebra, reach)
+        } else {
+            reach
+        }
     }
 
     // Whether a handle is a code of the algebra or a place in use, marked only where it may be.

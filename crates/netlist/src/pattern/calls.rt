@@ -6,6 +6,8 @@ ghost use Rattle.netlist.specs.Patterns.{pattern-fault-number};
 use super::Pattern;
 use super::PatternFault;
 
+const WIDEST: u8 = 60;
+
 impl PatternFault {
     // The number of the refusal.
     pub fn number(self) -> u8
@@ -23,7 +25,7 @@ impl Pattern {
             (λ p. (p .width ≡ width) × (p .number ≡ number) × (width ≤ 60) × (number < 2 ^ width))
             (λ _. (width ≤ 60 → number < 2 ^ width → ⊥)) ⌝ }
     {
-        if width > 60 || number >> width != 0 {
+        if width > WIDEST || number >> width != 0 {
             return Err(PatternFault::OutOfBounds);
         }
         Ok(Pattern { width, number })

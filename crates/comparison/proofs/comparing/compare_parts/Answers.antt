@@ -1,4 +1,4 @@
-use mathlib.Core.Path.{_≡_, refl, sym, ap, subst, _∙_}
+use mathlib.Core.Path.{_≡_, refl, sym, ap, ap₂, subst, _∙_}
 use mathlib.Core.List.{List, [], _∷_, _++_, map}
 use Prim.Native.Nat.{_+_, _-_, _<_, _≤_}
 use native.Mathlib.Omega.{arith}
@@ -14,7 +14,7 @@ use Rattle.diagram.specs.Views.{view, room}
 use Rattle.diagram.proofs.Adds.{grows-trans}
 use Rattle.diagram.proofs.Shapes.{well}
 use Rattle.comparison.specs.declared.fault.CompareFault.the-variants.{First, Second, Pair}
-use Rattle.comparison.specs.Lays.{lay-answers}
+use Rattle.comparison.specs.Lays.{Table-refuses, lay-answers}
 use Rattle.comparison.specs.Compares.{parts-event, Parts-compared, no-pairs, pairs-event, second-part}
 use Rattle.comparison.proofs.Comparings.{first-ok, first-err, second-ok, second-err, laid-ok, laid-refused, refused-since, answers-all, one-laid, two-laid, front-first, back-first, rest-first, parts-moved, event-moved}
 use Rattle.comparison.proofs.comparing.compare_parts.Needs as need
@@ -211,7 +211,7 @@ returns-in-Break-check-pairs g c =
       compared =
           parts-moved o s v ls ms (take a xs) (take (a - 0) xs) (take a H) hs (second-part ls ms xs) (take (a + b - a) (drop a mid)) (second-part ls ms H) ks (c .args .found .now) cs r old front old2 back
           (subst (λ r. Parts-compared o s v ls ms (take (a - 0) xs) hs (take (a + b - a) (drop a mid)) ks (c .args .found .now) cs r) (sym is)
-          (first .0, none, (grows-trans grows (pairs .checked .0), pairs .checked .1, pairs .checked .2, pairs .checked .3)));
+          (first .0, none, (grows-trans grows (pairs .checked .0), pairs .checked .1, subst (λ z. Table-refuses o v z (e .fault)) (ap₂ (λ x y. x ++ y) isl isr) (pairs .checked .2), pairs .checked .3)));
       rest = rest-part a b (a - 0) (a + b - a) xs hs ks e0 e1 lu lv;
       room = pairs .room ∙ same;
       kept = λ run kept.

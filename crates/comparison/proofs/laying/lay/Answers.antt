@@ -67,7 +67,7 @@ returns-in-Break-h g c =
     let is : c .from-residual .result ≡ Err (AtLine (record { line = k; fault = f })) = p .1 ∙ ap Err (p .2 ∙ ap AtLine (err .1)) in
     let long : length ls ≤ length hs = (let e = c .loop-number .kept in omega (arith, c .if-handles-lines .left)) in
     let here = getD-default ls k blank-line l h in
-    let stays = line-refused (inv .0) l h here long u R f (subst (λ r. Lined o t u Q R k l r) (err .0) (told .lined)) in
+    let stays = line-refused (inv .0) l h here long u R f (subst (λ r. Lined o t u Q R (take k hs) k l r) (err .0) (told .lined)) in
     record {
       laid = subst (λ r. Laid o s u P R (length (c .args .rows .now)) ls (c .args .handles .now) hs r) (sym is) (c .if-handles-lines .left, omega (arith, c .inputs .ensures, c .if-rows-inputs .left), h, stays .0, stays .1);
       room = told .room ∙ inv .1;
@@ -93,8 +93,8 @@ loop-number-again g c =
     let l : Line = getD ls k blank-line in
     let ok = line-ok (c .lay-line .result) k x (c .in-Continue-h .ensures tt) in (
       laying-more (inv .0) l h (getD-default ls k blank-line l h) (let e = c .loop-number .kept in omega (arith, c .if-handles-lines .left)) u R x
-          (subst (λ r. Lined o t u Q R k l r) ok (told .lined))
-          (subst (λ n. Line-kept o n t u Q R (take k hs) l (line-answer (Ok x))) (inv .1) (subst (λ r. Line-kept o (room (c .loop-number .table)) t u Q R (take k hs) l (line-answer r)) ok (told .kept))),
+      (subst (λ r. Lined o t u Q R (take k hs) k l r) ok (told .lined))
+      (subst (λ n. Line-kept o n t u Q R (take k hs) l (line-answer (Ok x))) (inv .1) (subst (λ r. Line-kept o (room (c .loop-number .table)) t u Q R (take k hs) l (line-answer r)) ok (told .kept))),
       told .room ∙ inv .1,
     )
 

@@ -4,6 +4,7 @@ use Prim.Native.Nat.{_<_, _≤_}
 use lib.ListN.{length, getD, take}
 use native.Mathlib.Omega.{arith}
 use Rattle.std.specs.declared.result.Result.the-variants.{Ok}
+use Rattle.std.proofs.shelf.Lists.{length-take-le, getD-take}
 use Rattle.diagram.specs.Views.{view, room}
 use Rattle.diagram.specs.Stores.{value}
 use Rattle.diagram.specs.Faults.{input-refusal, constant-refusal, turn-refusal, join-refusal}
@@ -27,7 +28,7 @@ returns-then-line-eq-INPUT g c =
     let l = c .args .line in
     let told = c .input .ensures in
     record {
-      outcome = outcome s (view (c .input .last .self)) (g .M·Memo .recalls (c .args .memo .now)) (g .M·Memo .recalls (c .input .last .memo)) (input-refusal s (l .first)) (c .input .result) (told .shape) (input-refuses s (l .first) (input-inside o _ _ l (c .pre .accepted) (c .if-line-eq-INPUT .taken)));
+      outcome = outcome o (take (c .args .number) (c .args .handles .now)) s (view (c .input .last .self)) (g .M·Memo .recalls (c .args .memo .now)) (g .M·Memo .recalls (c .input .last .memo)) (input-refusal s (l .first)) (c .input .result) (told .shape) (input-refuses o s (take (c .args .number) (c .args .handles .now)) (l .first) (input-inside o _ _ l (c .pre .accepted) (c .if-line-eq-INPUT .taken)));
       room = told .room;
       kept =
           made-kept (g .G·Algebra .laws) (well (c .args .table .now .well)) (well (c .input .last .self .well)) (subst (λ n. view (c .input .last .self) .used ≤ n) (told .room) (told .fits)) (g .M·Memo .recalls (c .args .memo .now)) (g .M·Memo .recalls (c .input .last .memo)) (input-refusal s (l .first)) (c .input .result) (told .shape) (take (c .args .number) (c .args .handles .now)) l
@@ -43,7 +44,7 @@ returns-then-line-eq-CONST g c =
     let w = well (c .args .table .now .well) in
     let told = c .constant .ensures in
     record {
-      outcome = outcome s s P P (constant-refusal o (l .first)) (c .constant .result) (told .shape P) (constant-refuses o (l .first) (code-inside o _ _ l (c .pre .accepted) (c .if-line-eq-INPUT .left) (c .if-line-eq-CONST .taken)));
+      outcome = outcome o (take (c .args .number) (c .args .handles .now)) s s P P (constant-refusal o (l .first)) (c .constant .result) (told .shape P) (constant-refuses o s (take (c .args .number) (c .args .handles .now)) (l .first) (code-inside o _ _ l (c .pre .accepted) (c .if-line-eq-INPUT .left) (c .if-line-eq-CONST .taken)));
       room = refl;
       kept =
           made-kept (g .G·Algebra .laws) w w (told .fits) P P (constant-refusal o (l .first)) (c .constant .result) (told .shape P) (take (c .args .number) (c .args .handles .now)) l
@@ -71,7 +72,7 @@ returns-then-line-eq-NOT g c =
     let told = c .turn .ensures in
     let earlier = one-earlier o _ _ l (c .pre .accepted) (c .if-line-eq-INPUT .left) (c .if-line-eq-CONST .left) (one-operand (l .kind) (inl (c .if-line-eq-NOT .taken))) in
     record {
-      outcome = outcome s (view (c .turn .last .self)) (g .M·Memo .recalls (c .args .memo .now)) (g .M·Memo .recalls (c .turn .last .memo)) (turn-refusal o s (length (c .args .rows .now)) (getD xs (l .first) 0)) (c .turn .result) (told .shape) (turn-refuses o s (length (c .args .rows .now)) (getD xs (l .first) 0) (c .pre .rows));
+      outcome = outcome o (take (c .args .number) (c .args .handles .now)) s (view (c .turn .last .self)) (g .M·Memo .recalls (c .args .memo .now)) (g .M·Memo .recalls (c .turn .last .memo)) (turn-refusal o s (length (c .args .rows .now)) (getD xs (l .first) 0)) (c .turn .result) (told .shape) (turn-refuses o s (take (c .args .number) xs) (length (c .args .rows .now)) (l .first) (getD xs (l .first) 0) (c .pre .rows) (let n = length-take-le (c .args .number) xs (c .pre .within) in omega arith) (sym (getD-take (c .args .number) xs (l .first) 0 earlier)));
       room = told .room;
       kept =
           made-kept (g .G·Algebra .laws) (well (c .args .table .now .well)) (well (c .turn .last .self .well)) (subst (λ n. view (c .turn .last .self) .used ≤ n) (told .room) (told .fits)) (g .M·Memo .recalls (c .args .memo .now)) (g .M·Memo .recalls (c .turn .last .memo)) (turn-refusal o s (length (c .args .rows .now)) (getD xs (l .first) 0)) (c .turn .result) (told .shape) (take (c .args .number) xs) l
@@ -90,7 +91,7 @@ returns g c =
     let earlier = both-earlier o _ _ l (c .pre .accepted) (c .if-line-eq-INPUT .left) (c .if-line-eq-CONST .left) (two-operands (l .kind) (c .if-line-eq-NOT .left) (c .if-line-eq-OUT .left)) in
     let there = operator-known o _ _ l (c .pre .accepted) (c .if-line-eq-INPUT .left) (c .if-line-eq-CONST .left) (c .if-line-eq-NOT .left) (c .if-line-eq-OUT .left) in
     record {
-      outcome = outcome s (view (c .join .last .self)) (g .M·Memo .recalls (c .args .memo .now)) (g .M·Memo .recalls (c .join .last .memo)) (join-refusal o s (length (c .args .rows .now)) (l .kind) x y) (c .join .result) (told .shape) (join-refuses o s (length (c .args .rows .now)) (l .kind) x y (c .pre .rows) there);
+      outcome = outcome o (take (c .args .number) (c .args .handles .now)) s (view (c .join .last .self)) (g .M·Memo .recalls (c .args .memo .now)) (g .M·Memo .recalls (c .join .last .memo)) (join-refusal o s (length (c .args .rows .now)) (l .kind) x y) (c .join .result) (told .shape) (join-refuses o s (take (c .args .number) xs) (length (c .args .rows .now)) (l .kind) (l .first) (l .second) x y (c .pre .rows) there (let a = earlier .0 in let n = length-take-le (c .args .number) xs (c .pre .within) in omega arith) (sym (getD-take (c .args .number) xs (l .first) 0 (earlier .0))) (let a = earlier .1 in let n = length-take-le (c .args .number) xs (c .pre .within) in omega arith) (sym (getD-take (c .args .number) xs (l .second) 0 (earlier .1))));
       room = told .room;
       kept =
           made-kept (g .G·Algebra .laws) (well (c .args .table .now .well)) (well (c .join .last .self .well)) (subst (λ n. view (c .join .last .self) .used ≤ n) (told .room) (told .fits)) (g .M·Memo .recalls (c .args .memo .now)) (g .M·Memo .recalls (c .join .last .memo)) (join-refusal o s (length (c .args .rows .now)) (l .kind) x y) (c .join .result) (told .shape) (take (c .args .number) xs) l

@@ -1,3 +1,4 @@
+use mathlib.Core.List.{_++_}
 use mathlib.Core.Path.{_≡_, refl, sym, ap, subst, _∙_}
 use mathlib.Core.List.{_∷_}
 use Prim.Native.Nat.{_+_, _<_, _≤_}
@@ -68,7 +69,7 @@ returns-in-Break-checked g c =
     let err = pair-err (c .check .result) k e (c .in-Break-checked .ensures tt) in
     let is : c .from-residual .result ≡ Err (record { pair = k; fault = e .fault }) = p .1 ∙ ap Err (p .2 ∙ err .1) in
     record {
-      checked = subst (λ r. Pairs-checked (view (c .args .table .now)) (view (c .check .last .table)) (c .args .found .now) (c .loop-pair .found) r) (sym is)
+      checked = subst (λ r. Pairs-checked (g .G·Algebra .ops) (view (c .args .table .now)) (view (c .check .last .table)) (c .args .left .now ++ c .args .right .now) (c .args .found .now) (c .loop-pair .found) r) (sym is)
           (refused-leaves (g .G·Algebra .laws) (inv .0) due (well (c .loop-pair .table .well)) (view (c .check .last .table)) (well (c .check .last .table .well)) (room (c .loop-pair .table)) (inv .1) fits (g .M·Memo .recalls (c .check .last .memo)) (length (c .loop-pair .rows)) x y left right (omega (arith, c .pre .rows, c .loop-pair .kept .rows)) (e .fault) (c .check .result) (err .0) (told .shape) (c .pre .room));
       room = told .room ∙ inv .1;
       kept = λ run kept.

@@ -1,9 +1,10 @@
-use mathlib.Core.Path.{_≡_, refl, sym, _∙_, ap, subst}
-use Prim.Native.Nat.{_+_, _<_, _≤_}
+use mathlib.Core.Path.{refl, sym, _∙_, ap, subst}
+use Prim.Native.Nat.{_+_, _≤_}
 use native.Mathlib.Omega.{arith}
 use borrow.Author.Needs.{needs}
 use lib.ListN.{length}
 use Rattle.std.proofs.shelf.Tests.{ltb-true}
+use Rattle.std.proofs.shelf.Ways.{when-true}
 use Rattle.diagram.specs.Makings.{From}
 use Rattle.diagram.specs.Marks.{reach-of}
 use Rattle.diagram.specs.Rules.{settled-mask}
@@ -11,7 +12,7 @@ use Rattle.diagram.specs.Views.{view, room}
 use Rattle.diagram.specs.Walks.{Ran-out, combined}
 use Rattle.diagram.proofs.Adds.{grows-refl, grows-trans}
 use Rattle.diagram.proofs.Descents.{leaf-from, negated-from, moved-from, some-row, low-rows, high-rows, low-beyond, high-beyond}
-use Rattle.diagram.proofs.Halves.{Halved, halved}
+use Rattle.diagram.proofs.Halves.{halved}
 use Rattle.diagram.proofs.Passes.{settled-test}
 use Rattle.diagram.proofs.Shapes.{well}
 use Rattle.diagram.proofs.Values.{within-grows}
@@ -53,7 +54,7 @@ pub returns-then-is-from : need.returns-then-is-from
 returns-then-is-from g t c =
     let o = g .G·Algebra .ops in
     let s = view (c .args .table .now) in
-    let r : From s (c .cut .result .input) (c .in-Some .h) = search needs in
+    let r : From s (c .cut .result .input) (c .in-Some .h) = when-true _ (Unit {0}) (c .if-is-from .taken) (c .is-from .ensures) in
     record {
       grows = grows-refl s;
       room = refl;

@@ -9,8 +9,8 @@ loop-line-again c =
     let h = c .loop-line-test .taken in
     let inv = c .loop-line .inv in
     elim (c .if-line-eq-OUT .came) [
-      | then-line-eq-OUT w ↦ let k = count-out (c .args .lines .now) i _ h (w .if-line-eq-OUT .taken) in let v = w .count-is in (omega arith, omega arith)
-      | else-line-eq-OUT w ↦ let k = count-other (c .args .lines .now) i _ h (w .if-line-eq-OUT .left) in let v = w .count-is in (omega arith, omega arith)
+      | then-line-eq-OUT w ↦ let k = count-out (c .args .lines .now) i _ h (w .if-line-eq-OUT .taken) in let v = w .outs-is in (omega arith, omega arith)
+      | else-line-eq-OUT w ↦ let k = count-other (c .args .lines .now) i _ h (w .if-line-eq-OUT .left) in let v = w .outs-is in (omega arith, omega arith)
     ]
 
 pub returns : need.returns

@@ -5,4 +5,4 @@ use Rattle.netlist.specs.Lines.{out-count}
 use Rattle.netlist.proofs.comparison.count_outs.Given as given
 
 abbrev pub Inv-loop-line : given.InvT-loop-line
-Inv-loop-line l = (l .count + out-count (drop (l .line-index) (l .lines)) ≡ out-count (l .lines)) × (l .count ≤ l .line-index)
+Inv-loop-line l = (l .outs + out-count (drop (l .line-index) (l .lines)) ≡ out-count (l .lines)) × (l .outs ≤ l .line-index)

@@ -20,4 +20,5 @@ returns-in-Break-out c = made-from-err _ _ (c .from-residual-in-Break-out .ensur
 pub returns : need.returns
 returns c =
     let whole = refilled-is (c .in-Continue-out .out) (c .put-answer-end .last .out) (c .put-answer-end .kept .out ∙ c .deref-mut-5 .ensures .len) in
-    subst (λ l. Prints (c .args .input .now) l) (sym (c .truncate .ensures .items ∙ ap (take (c .put-answer-end .result)) whole)) (c .put-answer-end .ensures .text)
+    let same = c .truncate .ensures .items ∙ ap (take (c .put-answer-end .result)) whole in
+    (subst (λ l. Prints (c .args .input .now) l) (sym same) (c .put-answer-end .ensures .text), λ t p. c .put-answer-end .ensures .only t p ∙ sym same)

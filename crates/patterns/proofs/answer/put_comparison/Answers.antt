@@ -20,7 +20,7 @@ pub returns-in-Ok : need.returns-in-Ok
 returns-in-Ok g c =
     record {
       within = c .put-too-many .ensures .within;
-      text = c .put-too-many .ensures .text ∙ too-many-printed (g .G·Algebra .ops) (c .args .inputs) (c .args .first .now) (c .args .second .now) _ _ (c .pre .first) (c .pre .second) (c .pre .inputs) (c .pre .values) (c .pre .findings) (c .in-Ok .ensures tt .1) (c .if-inputs-gt16 .taken);
+      text = c .put-too-many .ensures .text ∙ too-many-printed (g .G·Algebra .ops) (c .args .inputs) (c .args .first .now) (c .args .second .now) _ _ (c .pre .first) (c .pre .second) (c .pre .inputs) (c .pre .values) (c .pre .findings) (c .in-Ok .ensures tt .1) (c .if-inputs-gt-INPUTS .taken);
     }
 
 pub returns-in-Err : need.returns-in-Err
@@ -51,7 +51,7 @@ returns-in-Ok-compare-by-patterns g c =
           c .put-report .ensures .text
           ∙ ap (λ k. summary-row k Tried (2 ^ n) ++ findings-text (o .letter) n 0 (take (pairs - 0) (c .compare-by-patterns .last .found))) (ok .0)
           ∙ ap (λ fs. summary-row (out-count ls) Tried (2 ^ n) ++ findings-text (o .letter) n 0 fs) (found-first o n ls ms _ _ (c .pre .first) (c .pre .second) (c .pre .inputs) (c .pre .values) (c .pre .findings) (ok .1) pairs _ _ (ok .0) (ok .2))
-          ∙ report-printed o n ls ms _ _ (c .pre .first) (c .pre .second) (c .pre .inputs) (c .pre .values) (c .pre .findings) (ok .1) (c .if-inputs-gt16 .left);
+          ∙ report-printed o n ls ms _ _ (c .pre .first) (c .pre .second) (c .pre .inputs) (c .pre .values) (c .pre .findings) (ok .1) (c .if-inputs-gt-INPUTS .left);
     }
 
 pub returns-in-Err-compare-by-patterns : need.returns-in-Err-compare-by-patterns

@@ -1,5 +1,4 @@
 use mathlib.Core.Path.{_≡_}
-use Prim.Native.Nat.{_≤_}
 use Rattle.diagram.specs.Marks.{turn-below}
 use Rattle.diagram.proofs.codes.masks.turn_mask.Given as given
 

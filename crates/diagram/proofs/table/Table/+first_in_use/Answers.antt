@@ -40,15 +40,15 @@ returns-then-is-up g t c =
     let h = c .args .h in
     let v = c .args .wanted in
     let u = c .under-mark-below .result in
-    let m = c .reach-in-use .result in
+    let m = c .reach-of .result in
     let r = c .record-of-record .result in
     let x = c .first-in-use .result in
     let large = ltb-false h 16 (sym (c .is-constant .ensures) ∙ c .if-is-constant .left) in
     let read = c .record-of-record .ensures .read in
     let small = c .first-in-use .ensures .small in
     record {
-      small = low-small laws w h v u m r large (c .pre .within) read (c .under-mark-below .ensures) (c .reach-in-use .ensures) x (c .record-of-record .ensures .placed) small;
-      first = low-leads laws w h v u m r large (c .pre .within) read (c .under-mark-below .ensures) (c .reach-in-use .ensures) x (sym (c .is-up .ensures) ∙ c .if-is-up .taken) small (c .first-in-use .ensures .first);
+      small = low-small laws w h v u m r large (c .pre .within) read (c .under-mark-below .ensures) (c .reach-of .ensures) x (c .record-of-record .ensures .placed) small;
+      first = low-leads laws w h v u m r large (c .pre .within) read (c .under-mark-below .ensures) (c .reach-of .ensures) x (sym (c .is-up .ensures) ∙ c .if-is-up .taken) small (c .first-in-use .ensures .first);
     }
 
 pub first-in-use-rest-requires : need.first-in-use-rest-requires
@@ -69,10 +69,10 @@ add-result g t c =
     let h = c .args .h in
     let v = c .args .wanted in
     let u = c .under-mark-below .result in
-    let m = c .reach-in-use .result in
+    let m = c .reach-of .result in
     let r = c .record-of-record .result in
     let large = ltb-false h 16 (sym (c .is-constant .ensures) ∙ c .if-is-constant .left) in
-    let sum = high-small laws w h v u m r large (c .pre .within) (c .record-of-record .ensures .read) (c .under-mark-below .ensures) (c .reach-in-use .ensures) (c .first-in-use-rest .result) (c .pattern-of .result) (c .record-of-record .ensures .placed) (c .first-in-use-rest .ensures .small) (c .pattern-of .ensures) in
+    let sum = high-small laws w h v u m r large (c .pre .within) (c .record-of-record .ensures .read) (c .under-mark-below .ensures) (c .reach-of .ensures) (c .first-in-use-rest .result) (c .pattern-of .result) (c .record-of-record .ensures .placed) (c .first-in-use-rest .ensures .small) (c .pattern-of .ensures) in
     let k : n - level (view (c .args .self .now)) h ≤ 60 = omega (arith, w .few) in
     let most : 2 ^ (n - level (view (c .args .self .now)) h) ≤ 2 ^ 60 = pow-mono k in
     omega arith
@@ -84,7 +84,7 @@ returns g t c =
     let h = c .args .h in
     let v = c .args .wanted in
     let u = c .under-mark-below .result in
-    let m = c .reach-in-use .result in
+    let m = c .reach-of .result in
     let r = c .record-of-record .result in
     let x = c .first-in-use-rest .result in
     let y = c .pattern-of .result in
@@ -92,6 +92,6 @@ returns g t c =
     let read = c .record-of-record .ensures .read in
     let small = c .first-in-use-rest .ensures .small in
     record {
-      small = high-small laws w h v u m r large (c .pre .within) read (c .under-mark-below .ensures) (c .reach-in-use .ensures) x y (c .record-of-record .ensures .placed) small (c .pattern-of .ensures);
-      first = high-leads laws w h v u m r large (c .pre .within) read (c .under-mark-below .ensures) (c .reach-in-use .ensures) x y (sym (c .is-up .ensures) ∙ c .if-is-up .left) small (c .pattern-of .ensures) (c .first-in-use-rest .ensures .first);
+      small = high-small laws w h v u m r large (c .pre .within) read (c .under-mark-below .ensures) (c .reach-of .ensures) x y (c .record-of-record .ensures .placed) small (c .pattern-of .ensures);
+      first = high-leads laws w h v u m r large (c .pre .within) read (c .under-mark-below .ensures) (c .reach-of .ensures) x y (sym (c .is-up .ensures) ∙ c .if-is-up .left) small (c .pattern-of .ensures) (c .first-in-use-rest .ensures .first);
     }

@@ -1,4 +1,4 @@
-use mathlib.Core.Path.{sym, _∙_}
+use mathlib.Core.Path.{_∙_}
 use Rattle.diagram.specs.Views.{view}
 use Rattle.diagram.proofs.Halves.{split-passes}
 use Rattle.diagram.proofs.table.Table.cofactors.Needs as need

@@ -1,5 +1,4 @@
 use native.Mathlib.Omega.{arith}
-use Rattle.diagram.specs.Views.{view}
 use Rattle.diagram.proofs.Shapes.{well}
 use Rattle.diagram.proofs.Halves.{cut-inside}
 use Rattle.diagram.proofs.table.Table.cut.Needs as need

@@ -30,7 +30,7 @@ returns-then-not-is-up g c =
     let l : lawful o s h ≡ true = sym (c .is-lawful .ensures) ∙ c .if-not-is-lawful .left in
     let code : ltb v (o .count) ≡ true = lt-ltb v (o .count) (omega arith) in
     let passes : find-refusal o s h v ≡ None = passed (lawful o s h) NoSuchHandle (test (ltb v (o .count)) NoSuchCode None) l ∙ passed (ltb v (o .count)) NoSuchCode None code in
-    let down : up (reach-of o s h) v ≡ false = ap (λ m. up m v) (sym (c .reach-in-use .ensures)) ∙ sym (c .is-up .ensures) ∙ c .if-not-is-up .taken in
+    let down : up (reach-of o s h) v ≡ false = ap (λ m. up m v) (sym (c .reach-of .ensures)) ∙ sym (c .is-up .ensures) ∙ c .if-not-is-up .taken in
     record {
       refusal = sym passes;
       shape = down;
@@ -47,7 +47,7 @@ returns g c =
     let l : lawful o s h ≡ true = sym (c .is-lawful .ensures) ∙ c .if-not-is-lawful .left in
     let code : ltb v (o .count) ≡ true = lt-ltb v (o .count) (omega arith) in
     let passes : find-refusal o s h v ≡ None = passed (lawful o s h) NoSuchHandle (test (ltb v (o .count)) NoSuchCode None) l ∙ passed (ltb v (o .count)) NoSuchCode None code in
-    let set : up (reach-of o s h) v ≡ true = ap (λ m. up m v) (sym (c .reach-in-use .ensures)) ∙ sym (c .is-up .ensures) ∙ c .if-not-is-up .left in
+    let set : up (reach-of o s h) v ≡ true = ap (λ m. up m v) (sym (c .reach-of .ensures)) ∙ sym (c .is-up .ensures) ∙ c .if-not-is-up .left in
     let k : s .inputs - level s h ≤ s .inputs = omega arith in
     record {
       refusal = sym passes;

@@ -1,42 +1,19 @@
-use mathlib.Core.Path.{refl}
-use mathlib.Core.Logic.{inr}
+use mathlib.Core.Path.{_≡_, subst}
+use Prim.Native.Nat.{_≤_}
 use native.Mathlib.Omega.{arith}
-use Prim.Native.Nat.{_<_}
-use Rattle.std.proofs.shelf.Tests.{lt-ltb}
-use Rattle.netlist.specs.Signals.{input}
 use Rattle.diagram.specs.Views.{view, room}
-use Rattle.diagram.proofs.Adds.{grows-refl}
+use Rattle.diagram.proofs.Events.{kept-input}
 use Rattle.diagram.proofs.Shapes.{well}
-use Rattle.diagram.proofs.Fulls.{overfull, back-same, bit-beyond, bit-lawful, input-result, input-out, table-fits, passes}
 use Rattle.diagram.proofs.table.Table.input.Needs as need
 
-pub returns-in-Ok : need.returns-in-Ok
-returns-in-Ok g c =
-    let laws = g .G·Algebra .laws in
-    let s = view (c .args .self .now) in
-    let inside : c .args .input < s .inputs = omega (arith, c .inputs .ensures) in
-    let made = c .in-Ok .ensures tt in
+pub returns : need.returns
+returns g c =
+    let e = c .input-step .ensures in
+    let fits : view (c .input-step .last .self) .used ≤ room (c .args .self .now) = subst (λ k. view (c .input-step .last .self) .used ≤ k) (e .room) (e .fits) in
     record {
-      shape = record { passed = passes _ _ _ (lt-ltb (c .args .input) (s .inputs) inside); grows = made .grows; within = made .shape .within };
-      meaning = λ sound pairs.
-          input-result (well (c .args .self .now .well)) (made .grows) (g .M·Memo .recalls (c .args .memo .now)) (c .args .input) (c .in-Ok .h) pairs
-          (made .meaning sound (bit-lawful laws s 0 (omega arith)) (bit-lawful laws s 1 (omega arith)));
-      room = made .room;
-      fits = table-fits (c .make .last .self);
-    }
-
-pub returns-in-Err : need.returns-in-Err
-returns-in-Err g c =
-    let laws = g .G·Algebra .laws in
-    let s = view (c .args .self .now) in
-    let w = well (c .args .self .now .well) in
-    let inside : c .args .input < s .inputs = omega (arith, c .inputs .ensures) in
-    let made = c .in-Err .ensures tt in
-    record {
-      shape = inr (record { passed = passes _ _ _ (lt-ltb (c .args .input) (s .inputs) inside); full = refl; table = back-same (made .shape); memo = c .clear .ensures });
-      meaning = λ sound pairs.
-          overfull laws w w (grows-refl s) (room (c .args .self .now)) (input (s .inputs) (c .args .input))
-          (input-out (room (c .args .self .now)) s (c .args .input) sound (made .meaning sound (bit-lawful laws s 0 (omega arith)) (bit-lawful laws s 1 (omega arith))));
-      room = made .room;
-      fits = table-fits (c .make .last .self);
+      shape = e .shape;
+      meaning = e .meaning;
+      room = e .room;
+      fits = e .fits;
+      kept = λ run. kept-input (g .G·Algebra .laws) (well (c .args .self .now .well)) (well (c .input-step .last .self .well)) fits _ _ run _ (c .input-step .result) (e .shape) (c .args .input) (e .meaning);
     }

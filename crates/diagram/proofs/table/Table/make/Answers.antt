@@ -1,15 +1,25 @@
-use mathlib.Core.Path.{sym, _∙_, ap, subst}
+use mathlib.Core.Path.{refl, sym, _∙_, ap, subst}
 use mathlib.Core.Bool.{cond}
 use Prim.Native.Nat.{_+_}
 use Rattle.diagram.specs.Stores.{handle}
 use Rattle.diagram.specs.Views.{view, room}
 use Rattle.diagram.specs.Steps.{Fits}
 use Rattle.diagram.specs.Makings.{From, Chosen}
-use Rattle.diagram.specs.Marks.{made-handle}
+use Rattle.diagram.proofs.Adds.{grows-refl}
 use Rattle.diagram.proofs.Shapes.{well}
 use Rattle.diagram.proofs.Makes.{kept-sides}
-use Rattle.diagram.proofs.Chooses.{beside, from-found, chosen, crowded}
+use Rattle.diagram.proofs.Chooses.{beside, from-same, from-found, chosen-same, chosen, crowded}
 use Rattle.diagram.proofs.table.Table.make.Needs as need
+
+pub returns-then-low-high : need.returns-then-low-high
+returns-then-low-high g c =
+    let s = view (c .args .self .now) in
+    record {
+      grows = grows-refl s;
+      room = refl;
+      shape = from-same (c .args .input) (c .args .low) (c .pre .low);
+      meaning = λ sound l m. chosen-same (g .G·Algebra .ops) s (c .args .input) (c .args .low) (c .args .high) sound l (c .if-low-high .taken);
+    }
 
 pub add-requires : need.add-requires
 add-requires g c κs =

@@ -16,6 +16,6 @@ returns g c =
     let h = c .args .h in
     let l : lawful o s h ≡ true = sym (c .is-lawful .ensures) ∙ c .if-not-is-lawful .left in
     record {
-      mask = rw l (ap Ok (c .reach-in-use .ensures));
-      meaning = λ sound v. reach-decides (g .G·Algebra .laws) (well (c .args .self .now .well)) sound h _ v l (c .reach-in-use .ensures);
+      mask = rw l (ap Ok (c .reach-of .ensures));
+      meaning = λ sound v. reach-decides (g .G·Algebra .laws) (well (c .args .self .now .well)) sound h _ v l (c .reach-of .ensures);
     }
