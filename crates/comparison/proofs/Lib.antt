@@ -4,3 +4,4 @@ pub mod Lines
 pub mod Layings
 pub mod Pairings
 pub mod Comparings
+pub mod Reruns

@@ -3,3 +3,4 @@ pub mod Checks
 pub mod Faults
 pub mod Lays
 pub mod Compares
+pub mod Replays

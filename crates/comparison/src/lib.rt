@@ -5,6 +5,7 @@ mod fault;
 mod grading;
 mod laying;
 mod pairing;
+mod replaying;
 
 pub use checking::Checked;
 pub use checking::check;
@@ -15,3 +16,8 @@ pub use fault::LineReason;
 pub use fault::LineRefusal;
 pub use fault::PairRefusal;
 pub use laying::lay;
+pub use replaying::Call;
+pub use replaying::ReplayFault;
+pub use replaying::Span;
+pub use replaying::Told;
+pub use replaying::replay;
