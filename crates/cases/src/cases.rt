@@ -54,13 +54,31 @@ pub(crate) fn two_places(rt: &LibcRuntime) -> Result<(), AnyError> {
     let _ = table.start(&mut memo, 2);
     let a = table.input(&TwoValued, &mut memo, 0);
     let b = table.input(&TwoValued, &mut memo, 1);
-    let both = table.join(&TwoValued, &mut memo, &mut rows, AND, or_none(a), or_none(b));
+    let both = table.join(
+        &TwoValued,
+        &mut memo,
+        &mut rows,
+        AND,
+        or_none(a),
+        or_none(b),
+    );
     let not_a = table.turn(&TwoValued, &mut memo, &mut rows, or_none(a));
-    let never = table.join(&TwoValued, &mut memo, &mut rows, AND, or_none(a), or_none(not_a));
+    let never = table.join(
+        &TwoValued,
+        &mut memo,
+        &mut rows,
+        AND,
+        or_none(a),
+        or_none(not_a),
+    );
     let used = table.used();
     println!(rt, "two places: {} and {}", Told(a), Told(b))?;
     println!(rt, "AND of both: {}", Told(both))?;
-    println!(rt, "an input AND its NOT: {}, {used} places in use", Told(never))?;
+    println!(
+        rt,
+        "an input AND its NOT: {}, {used} places in use",
+        Told(never)
+    )?;
     Ok(())
 }
 
@@ -111,7 +129,10 @@ pub(crate) fn three_parts(rt: &LibcRuntime) -> Result<(), AnyError> {
     let turned = table.turn(&FiveValued, &mut memo, &mut rows, sample);
     let after = table.used();
     println!(rt, "the sample: handle {sample}, its NOT: {}", Told(turned))?;
-    println!(rt, "places in use before the NOT and after: {before} and {after}")?;
+    println!(
+        rt,
+        "places in use before the NOT and after: {before} and {after}"
+    )?;
     Ok(())
 }
 
@@ -123,12 +144,20 @@ pub(crate) fn floating_turned(rt: &LibcRuntime) -> Result<(), AnyError> {
     let _ = table.start(&mut memo, 1);
     let once = table.turn(&FiveValued, &mut memo, &mut rows, Z);
     let twice = table.turn(&FiveValued, &mut memo, &mut rows, or_none(once));
-    println!(rt, "NOT of a floating wire: {}, NOT NOT: {}", Told(once), Told(twice))?;
+    println!(
+        rt,
+        "NOT of a floating wire: {}, NOT NOT: {}",
+        Told(once),
+        Told(twice)
+    )?;
     let a = or_none(table.input(&FiveValued, &mut memo, 0));
     let driven = or_none(table.join(&FiveValued, &mut memo, &mut rows, IFAND, a, Z));
     let back = or_none(table.turn(&FiveValued, &mut memo, &mut rows, driven));
     let again = or_none(table.turn(&FiveValued, &mut memo, &mut rows, back));
-    println!(rt, "Z where an input is up: handle {driven}, turned {back}, turned again {again}")?;
+    println!(
+        rt,
+        "Z where an input is up: handle {driven}, turned {back}, turned again {again}"
+    )?;
     Ok(())
 }
 

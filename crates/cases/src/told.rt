@@ -31,7 +31,10 @@ pub impl fmt::Display for Found as FoundDisplay {
                 let pattern = d.pattern;
                 let left = d.left;
                 let right = d.right;
-                write!(f, "grade {grade} on pattern {pattern}: {left} against {right}")
+                write!(
+                    f,
+                    "grade {grade} on pattern {pattern}: {left} against {right}"
+                )
             }
         }
     }

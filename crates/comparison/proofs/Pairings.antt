@@ -196,9 +196,9 @@ module _ {o : Ops} (laws : Laws o) {room : ℕ} {s t : Store} {P Q : Pairs} {ls 
       let one : x < length hs = (let i = left .inside in omega arith) in
       let two : y < length ks = (let i = right .inside in omega arith) in
       let told =
-          outcome o (hs ++ ks) t u Q R (join-refusal o t rows 9 (getD hs x 0) (getD ks y 0)) (Err h) shape
-          (join-refuses o t (hs ++ ks) rows 9 x (length hs + y) (getD hs x 0) (getD ks y 0) (let g = checking .grows .inputs in omega arith) refl
-          (omega arith) (sym (getD-append-left hs ks 0 x one)) (omega arith) (sym (getD-append-add hs ks y 0)))
+      outcome o (hs ++ ks) t u Q R (join-refusal o t rows 9 (getD hs x 0) (getD ks y 0)) (Err h) shape
+      (join-refuses o t (hs ++ ks) rows 9 x (length hs + y) (getD hs x 0) (getD ks y 0) (let g = checking .grows .inputs in omega arith) refl
+      (omega arith) (sym (getD-append-left hs ks 0 x one)) (omega arith) (sym (getD-append-add hs ks y 0)))
       in
       (grows-trans (checking .grows) (back-grows (told .0)), (let d = due .inside in omega arith), subst (Table-refuses o u (hs ++ ks)) is (told .1), checking .rest)
 

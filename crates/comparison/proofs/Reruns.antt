@@ -38,10 +38,10 @@ span-cut ls from count f c k ef ec ek =
     ap (λ j. take j (drop f ls)) ek
     ∙ take-min (drop f ls) count (length ls - f) c (sym (length-drop f ls)) ec
     ∙ ap (take count)
-      (⊎-elim
-      (λ less. let same : f ≡ from = omega arith in ap (λ j. drop j ls) same)
-      (λ more. drop-all f ls (omega arith) ∙ sym (drop-all from ls (omega arith)))
-      (cases-lt from (length ls)))
+    (⊎-elim
+    (λ less. let same : f ≡ from = omega arith in ap (λ j. drop j ls) same)
+    (λ more. drop-all f ls (omega arith) ∙ sym (drop-all from ls (omega arith)))
+    (cases-lt from (length ls)))
 
 -- the first i calls are made
 pub record Running (o : Ops) (room n : ℕ) (ls : List Line) (cs : List Call) (t : Store) (Q : Pairs) (old new : List Told) (i : ℕ) : Type 0 where

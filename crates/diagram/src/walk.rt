@@ -65,9 +65,27 @@ pub(crate) fn walk<G: Algebra, M: Memo>(
             return Ok(h);
         }
     }
-    let low = walk(table, algebra, codes, memo, rest, op, own.low, own.low_other)?;
+    let low = walk(
+        table,
+        algebra,
+        codes,
+        memo,
+        rest,
+        op,
+        own.low,
+        own.low_other,
+    )?;
     own.low = low;
-    let high = walk(table, algebra, codes, memo, rest, op, own.high, own.high_other)?;
+    let high = walk(
+        table,
+        algebra,
+        codes,
+        memo,
+        rest,
+        op,
+        own.high,
+        own.high_other,
+    )?;
     let h = table.make(algebra, codes, own.input, own.low, high)?;
     memo.put(op, x, y, h);
     Ok(h)

@@ -114,8 +114,8 @@ pub verdicts : (o : Ops) → Laws o → (n : ℕ) (ss ts : List Signal) (fs rest
 verdicts o laws n ss ts fs rest et e k h =
     let z = zipped-length (finding o n) ss ts (omega arith) in
     let same : getD fs k Clean ≡ finding o n (signal-at ss k) (signal-at ts k) =
-        ap (λ l. getD l k Clean) e
-        ∙ getD-append-left (zipped (finding o n) ss ts) rest Clean k (omega arith)
-        ∙ zipped-at (finding o n) ss ts k (constant 0) (constant 0) Clean (omega arith) h
+    ap (λ l. getD l k Clean) e
+    ∙ getD-append-left (zipped (finding o n) ss ts) rest Clean k (omega arith)
+    ∙ zipped-at (finding o n) ss ts k (constant 0) (constant 0) Clean (omega arith) h
     in
     subst (Verdict o n (signal-at ss k) (signal-at ts k)) (sym same) (verdict o laws n (signal-at ss k) (signal-at ts k))

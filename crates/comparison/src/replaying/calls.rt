@@ -62,7 +62,16 @@ fn make_call<G: Algebra, M: Memo>(
         Call::Check(x, y) => Told::Check(check(table, algebra, memo, rows, x, y)),
         Call::Lay(span) => Told::Lay(lay(table, algebra, memo, rows, part(lines, span), handles)),
         Call::Compare(a, b) => {
-            Told::Compare(compare(table, algebra, memo, rows, part(lines, a), part(lines, b), handles, found))
+            Told::Compare(compare(
+                table,
+                algebra,
+                memo,
+                rows,
+                part(lines, a),
+                part(lines, b),
+                handles,
+                found,
+            ))
         }
     }
 }

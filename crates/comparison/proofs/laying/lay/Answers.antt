@@ -93,8 +93,8 @@ loop-number-again g c =
     let l : Line = getD ls k blank-line in
     let ok = line-ok (c .lay-line .result) k x (c .in-Continue-h .ensures tt) in (
       laying-more (inv .0) l h (getD-default ls k blank-line l h) (let e = c .loop-number .kept in omega (arith, c .if-handles-lines .left)) u R x
-      (subst (λ r. Lined o t u Q R (take k hs) k l r) ok (told .lined))
-      (subst (λ n. Line-kept o n t u Q R (take k hs) l (line-answer (Ok x))) (inv .1) (subst (λ r. Line-kept o (room (c .loop-number .table)) t u Q R (take k hs) l (line-answer r)) ok (told .kept))),
+          (subst (λ r. Lined o t u Q R (take k hs) k l r) ok (told .lined))
+          (subst (λ n. Line-kept o n t u Q R (take k hs) l (line-answer (Ok x))) (inv .1) (subst (λ r. Line-kept o (room (c .loop-number .table)) t u Q R (take k hs) l (line-answer r)) ok (told .kept))),
       told .room ∙ inv .1,
     )
 

@@ -26,6 +26,6 @@ returns g c =
       answer = (ok .0, ok .1, whole);
       verdicts = λ k h.
           verdicts o (g .G·Algebra .laws) n (outs ls (line-signals o n ls)) (outs ms (line-signals o n ms)) _ (drop pairs (c .args .found .now))
-            (let q = ok .1 .pairs in omega arith) whole k (let p = ok .0 in omega arith);
+          (let q = ok .1 .pairs in omega arith) whole k (let p = ok .0 in omega arith);
       rest = c .try-patterns .ensures .rest;
     }

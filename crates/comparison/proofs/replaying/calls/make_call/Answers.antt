@@ -73,9 +73,11 @@ returns-in-Lay g c =
     record {
       room = told .room;
       inputs = laid-inputs o _ _ _ _ _ _ _ _ (c .lay .result) (told .laid);
-      kept = λ run kept.
-          (runs.lay ls (lay-answers ls (c .lay .last .handles) (c .lay .result)), subst (λ z. Made (c .args .lines .now) z (Lay (c .lay .result)) (runs.lay ls (lay-answers ls (c .lay .last .handles) (c .lay .result)))) (sym (c .in-Lay .is)) (lay (c .in-Lay .span) (c .lay .last .handles) (c .lay .result)),
-           subst (λ z. Kept o (room (c .args .table .now)) (runs.lay z (lay-answers z (c .lay .last .handles) (c .lay .result)) ∷ run) (view (c .lay .last .table)) (g .M·Memo .recalls (c .lay .last .memo))) (c .part .ensures) (told .kept run kept));
+      kept = λ run kept. (
+        runs.lay ls (lay-answers ls (c .lay .last .handles) (c .lay .result)),
+        subst (λ z. Made (c .args .lines .now) z (Lay (c .lay .result)) (runs.lay ls (lay-answers ls (c .lay .last .handles) (c .lay .result)))) (sym (c .in-Lay .is)) (lay (c .in-Lay .span) (c .lay .last .handles) (c .lay .result)),
+        subst (λ z. Kept o (room (c .args .table .now)) (runs.lay z (lay-answers z (c .lay .last .handles) (c .lay .result)) ∷ run) (view (c .lay .last .table)) (g .M·Memo .recalls (c .lay .last .memo))) (c .part .ensures) (told .kept run kept),
+      );
     }
 
 pub returns-in-Compare : need.returns-in-Compare
@@ -89,8 +91,10 @@ returns-in-Compare g c =
     record {
       room = told .room;
       inputs = compared-inputs o _ _ _ _ _ _ _ _ _ _ _ (c .compare .result) (told .compared);
-      kept = λ run kept.
-          (compare-event ls ms hs cs (c .compare .result), subst (λ z. Made (c .args .lines .now) z (Compare (c .compare .result)) (compare-event ls ms hs cs (c .compare .result))) (sym (c .in-Compare .is)) (compare (c .in-Compare .a) (c .in-Compare .b) hs cs (c .compare .result)),
-           subst (λ z. Kept o (room (c .args .table .now)) (compare-event ls z hs cs (c .compare .result) ∷ run) (view (c .compare .last .table)) (g .M·Memo .recalls (c .compare .last .memo))) (c .part-in-Compare-2 .ensures)
-           (subst (λ z. Kept o (room (c .args .table .now)) (compare-event z (c .part-in-Compare-2 .result .now) hs cs (c .compare .result) ∷ run) (view (c .compare .last .table)) (g .M·Memo .recalls (c .compare .last .memo))) (c .part-in-Compare .ensures) (told .kept run kept)));
+      kept = λ run kept. (
+        compare-event ls ms hs cs (c .compare .result),
+        subst (λ z. Made (c .args .lines .now) z (Compare (c .compare .result)) (compare-event ls ms hs cs (c .compare .result))) (sym (c .in-Compare .is)) (compare (c .in-Compare .a) (c .in-Compare .b) hs cs (c .compare .result)),
+        subst (λ z. Kept o (room (c .args .table .now)) (compare-event ls z hs cs (c .compare .result) ∷ run) (view (c .compare .last .table)) (g .M·Memo .recalls (c .compare .last .memo))) (c .part-in-Compare-2 .ensures)
+            (subst (λ z. Kept o (room (c .args .table .now)) (compare-event z (c .part-in-Compare-2 .result .now) hs cs (c .compare .result) ∷ run) (view (c .compare .last .table)) (g .M·Memo .recalls (c .compare .last .memo))) (c .part-in-Compare .ensures) (told .kept run kept)),
+      );
     }
