@@ -6,7 +6,11 @@ use algebra::FiveAlgebra;
 use algebra::FiveValued;
 use algebra::TwoAlgebra;
 use algebra::TwoValued;
+use comparison::Call;
+use comparison::Checked;
+use comparison::Told as Answer;
 use comparison::check;
+use comparison::replay;
 use diagram::Memo;
 use diagram::NoMemo;
 use diagram::NoPairs;
@@ -79,6 +83,48 @@ pub(crate) fn two_places(rt: &LibcRuntime) -> Result<(), AnyError> {
         "an input AND its NOT: {}, {used} places in use",
         Told(never)
     )?;
+    Ok(())
+}
+
+// The same as a list of calls. Place p has handle 16 + 2p, and its NOT the number after it.
+pub(crate) fn two_places_replayed(rt: &LibcRuntime) -> Result<(), AnyError> {
+    let calls = [
+        Call::Input(0),
+        Call::Input(1),
+        Call::Join(AND, 16, 18),
+        Call::Turn(16),
+        Call::Join(AND, 16, 17),
+        Call::Turn(99),
+    ];
+    let mut table = Table::new(rt.alloc(), 2)?;
+    let mut memo = RowMemo::new(rt.alloc(), 8)?;
+    let mut rows = [FRAME; 3];
+    let mut handles = [0u32; 1];
+    let mut found = [Checked {
+        handle: 0,
+        finding: Finding::Clean,
+    }; 1];
+    let mut told = [Answer::Handle(Ok(0)); 6];
+    let replayed = replay(
+        &mut table,
+        &TwoValued,
+        &mut memo,
+        &mut rows,
+        2,
+        &[],
+        &calls,
+        &mut handles,
+        &mut found,
+        &mut told,
+    );
+    if replayed.is_err() {
+        return Err("refused".into());
+    }
+    for answer in told.iter() {
+        if let Answer::Handle(handle) = *answer {
+            println!(rt, "replayed: {}", Told(handle))?;
+        }
+    }
     Ok(())
 }
 
