@@ -1,3 +1,4 @@
+use crate::cases::FRAME;
 use crate::told::Found;
 use crate::told::FoundDisplay;
 use algebra::Algebra;
@@ -11,7 +12,6 @@ use comparison::lay;
 use diagram::Memo;
 use diagram::NoMemo;
 use diagram::NoPairs;
-use diagram::Row;
 use diagram::RowMemo;
 use diagram::RowPairs;
 use diagram::Table;
@@ -22,14 +22,6 @@ use netlist::Pattern;
 use netlist::compare_by_patterns;
 use netlist::evaluate;
 use std::error::AnyError;
-
-const FRAME: Row = Row {
-    input: 0,
-    low: 0,
-    high: 0,
-    low_other: 0,
-    high_other: 0,
-};
 
 const CLEAN: Checked = Checked {
     handle: 0,
@@ -106,6 +98,16 @@ fn tally_netlist<G: Algebra>(
     Ok(tally)
 }
 
+fn print_tally(rt: &LibcRuntime, what: &str, tally: Tally) -> Result<(), AnyError> {
+    let same = tally.same;
+    let other = tally.other;
+    println!(
+        rt,
+        "{what} beside the evaluator: {same} values agree, {other} do not"
+    )?;
+    Ok(())
+}
+
 // The cases of one signal as netlists: each line has the evaluator's value on every pattern.
 pub(crate) fn values_beside_evaluator(rt: &LibcRuntime) -> Result<(), AnyError> {
     let two_places = [
@@ -114,12 +116,10 @@ pub(crate) fn values_beside_evaluator(rt: &LibcRuntime) -> Result<(), AnyError> 
         line(Kind::Not, 0, 0),
         line(Kind::And, 0, 2),
     ];
-    let tally = tally_netlist(rt, &TwoValued, 2, 2, &two_places)?;
-    let same = tally.same;
-    let other = tally.other;
-    println!(
+    print_tally(
         rt,
-        "two places beside the evaluator: {same} values agree, {other} do not"
+        "two places",
+        tally_netlist(rt, &TwoValued, 2, 2, &two_places)?,
     )?;
     let three_parts = [
         line(Kind::Input, 0, 0),
@@ -137,12 +137,10 @@ pub(crate) fn values_beside_evaluator(rt: &LibcRuntime) -> Result<(), AnyError> 
         line(Kind::IfOr, 9, 11),
         line(Kind::Not, 12, 0),
     ];
-    let tally = tally_netlist(rt, &FiveValued, 64, 3, &three_parts)?;
-    let same = tally.same;
-    let other = tally.other;
-    println!(
+    print_tally(
         rt,
-        "the sample beside the evaluator: {same} values agree, {other} do not"
+        "the sample",
+        tally_netlist(rt, &FiveValued, 64, 3, &three_parts)?,
     )?;
     let floating = [
         line(Kind::Const, 3, 0),
@@ -153,12 +151,10 @@ pub(crate) fn values_beside_evaluator(rt: &LibcRuntime) -> Result<(), AnyError> 
         line(Kind::Not, 4, 0),
         line(Kind::Not, 5, 0),
     ];
-    let tally = tally_netlist(rt, &FiveValued, 64, 1, &floating)?;
-    let same = tally.same;
-    let other = tally.other;
-    println!(
+    print_tally(
         rt,
-        "a floating wire beside the evaluator: {same} values agree, {other} do not"
+        "a floating wire",
+        tally_netlist(rt, &FiveValued, 64, 1, &floating)?,
     )?;
     Ok(())
 }

@@ -37,7 +37,7 @@ const Z: u32 = 3;
 
 const S: u32 = 4;
 
-const FRAME: Row = Row {
+pub(crate) const FRAME: Row = Row {
     input: 0,
     low: 0,
     high: 0,
