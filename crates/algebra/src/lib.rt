@@ -1,4 +1,6 @@
 // Algebras of signal values: how many values there are, what NOT and the operators make of them, and which are settled.
+#![tactic(auto)]
+
 mod five;
 mod interface;
 mod operator;

@@ -1,4 +1,6 @@
 // Worked cases that need a table, each printed with what it comes to.
+#![tactic(auto)]
+
 mod beside;
 mod cases;
 mod told;

@@ -12,7 +12,7 @@ use netlist::{Difference, Finding, Pattern};
 
 // The value of a lawful handle on a pattern of the table's width; 0 for what is neither.
 fn value_on<G: Algebra>(table: &Table, algebra: &G, h: u32, number: u64) -> u8
-    ensures { Lawful ops (view table.now) h → number < 2 ^ (view table.now).inputs → result ≡ value ops (view table.now) h number }
+    ensures { Lawful G.ops (view table.now) h → number < 2 ^ (view table.now).inputs → result ≡ value G.ops (view table.now) h number }
 {
     let Ok(pattern) = Pattern::new(table.inputs(), number) else {
         return 0;
@@ -29,8 +29,8 @@ fn difference<G: Algebra>(
     x: u32,
     y: u32,
 ) -> Option<Difference>
-    ensures { Graded ops (view table.now) graded x y → grade < ops.count
-        → result ≡ difference_of (value ops (view table.now) x) (value ops (view table.now) y) grade (first (view table.now).inputs (value ops (view table.now) graded) grade) }
+    ensures { Graded G.ops (view table.now) graded x y → grade < G.ops.count
+        → result ≡ difference_of (value G.ops (view table.now) x) (value G.ops (view table.now) y) grade (first (view table.now).inputs (value G.ops (view table.now) graded) grade) }
 {
     let Ok(Some(pattern)) = table.find(algebra, graded, grade) else {
         return None;
@@ -51,8 +51,8 @@ pub(crate) fn grade_pair<G: Algebra>(
     x: u32,
     y: u32,
 ) -> Finding
-    ensures { Graded ops (view table.now) graded x y
-        → result ≡ finding ops (view table.now).inputs (value ops (view table.now) x) (value ops (view table.now) y) }
+    ensures { Graded G.ops (view table.now) graded x y
+        → result ≡ finding G.ops (view table.now).inputs (value G.ops (view table.now) x) (value G.ops (view table.now) y) }
 {
     let order = algebra.grave_order();
     for grade in order {

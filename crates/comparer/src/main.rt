@@ -1,4 +1,6 @@
 // Compares two netlists, which stand one after the other on standard input, on a table of shared diagrams.
+#![tactic(auto)]
+
 use anyhow::anyhow;
 use report::Workspace;
 use std::io::{Read, Write};

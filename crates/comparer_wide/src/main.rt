@@ -1,4 +1,6 @@
 // The same comparison as `comparer`, for netlists of up to 99,999 lines and a table of 1,048,576 places.
+#![tactic(auto)]
+
 use anyhow::anyhow;
 use report::Workspace;
 use std::io::{Read, Write};

@@ -48,11 +48,11 @@ fn compare_parts<G: Algebra, M: Memo>(
     requires even { out_count second.now ≡ out_count first.now }
     requires room { length found.old ≡ out_count first.now }
     requires rows { (view table.old).inputs < length rows.old }
-    ensures compared { PartsCompared ops (view table.old) (view table.new) first.now second.now (take (length first.now) handles.old) (take (length first.now) handles.new) (second_part first.now second.now handles.old) (second_part first.now second.now handles.new) found.old found.new result }
+    ensures compared { PartsCompared G.ops (view table.old) (view table.new) first.now second.now (take (length first.now) handles.old) (take (length first.now) handles.new) (second_part first.now second.now handles.old) (second_part first.now second.now handles.new) found.old found.new result }
     ensures rest { drop (length first.now + length second.now) handles.new ≡ drop (length first.now + length second.now) handles.old }
     ensures room { room table.new ≡ room table.old }
-    ensures kept { (run : Run) → Kept ops (room table.old) run (view table.old) (recalls memo.old)
-        → Kept ops (room table.old) (parts_event first.now second.now (take (length first.now) handles.new) (second_part first.now second.now handles.new) found.new result ∷ run) (view table.new) (recalls memo.new) }
+    ensures kept { (run : Run) → Kept G.ops (room table.old) run (view table.old) (M.recalls memo.old)
+        → Kept G.ops (room table.old) (parts_event first.now second.now (take (length first.now) handles.new) (second_part first.now second.now handles.new) found.new result ∷ run) (view table.new) (M.recalls memo.new) }
 {
     let middle = first.len();
     let end = middle + second.len();
@@ -115,10 +115,10 @@ pub fn compare<G: Algebra, M: Memo>(
     handles: &mut [u32],
     found: &mut [Checked],
 ) -> Result<usize, CompareFault>
-    ensures compared { Compared ops (view table.old) (view table.new) (recalls memo.old) (recalls memo.new) (length rows.old) first.now second.now handles.old handles.new found.old found.new result }
+    ensures compared { Compared G.ops (view table.old) (view table.new) (M.recalls memo.old) (M.recalls memo.new) (length rows.old) first.now second.now handles.old handles.new found.old found.new result }
     ensures room { room table.new ≡ room table.old }
-    ensures kept { (run : Run) → Kept ops (room table.old) run (view table.old) (recalls memo.old)
-        → Kept ops (room table.old) (compare_event first.now second.now handles.new found.new result ∷ run) (view table.new) (recalls memo.new) }
+    ensures kept { (run : Run) → Kept G.ops (room table.old) run (view table.old) (M.recalls memo.old)
+        → Kept G.ops (room table.old) (compare_event first.now second.now handles.new found.new result ∷ run) (view table.new) (M.recalls memo.new) }
 {
     let pairs = count_pairs(first, second, handles.len(), found.len())?;
     if rows.len() <= table.inputs() as usize {

@@ -1,4 +1,6 @@
 // Comparing netlists on a table of diagrams.
+#![tactic(auto)]
+
 mod comparing;
 mod pairing;
 mod replaying;

@@ -57,10 +57,10 @@ pub(crate) fn check_pairs<G: Algebra, M: Memo>(
     requires even { out_count second.now ≡ out_count first.now }
     requires room { length found.old ≡ out_count first.now }
     requires rows { (view table.old).inputs < length rows.old }
-    ensures checked { PairsChecked ops (view table.old) (view table.new) (left.now ++ right.now) found.old found.new result }
+    ensures checked { PairsChecked G.ops (view table.old) (view table.new) (left.now ++ right.now) found.old found.new result }
     ensures room { room table.new ≡ room table.old }
-    ensures kept { (run : Run) → Kept ops (room table.old) (no_pairs first.now second.now left.now right.now ∷ run) (view table.old) (recalls memo.old)
-        → Kept ops (room table.old) (pairs_event first.now second.now left.now right.now found.new result ∷ run) (view table.new) (recalls memo.new) }
+    ensures kept { (run : Run) → Kept G.ops (room table.old) (no_pairs first.now second.now left.now right.now ∷ run) (view table.old) (M.recalls memo.old)
+        → Kept G.ops (room table.old) (pairs_event first.now second.now left.now right.now found.new result ∷ run) (view table.new) (M.recalls memo.new) }
 {
     let mut from_left = 0;
     let mut from_right = 0;

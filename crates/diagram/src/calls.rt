@@ -22,10 +22,10 @@ impl Table {
     // Empties the table and the memo, and sets the number of inputs.
     pub fn start<M: Memo>(&mut self, memo: &mut M, inputs: u8) -> Result<(), TableFault>
         ensures outcome { MatchResult result
-            (λ _. Begun inputs (view self.new) (recalls memo.new) (start_refusal inputs))
-            (λ f. Stopped (view self.old) (view self.new) (recalls memo.old) (recalls memo.new) (start_refusal inputs) f) }
+            (λ _. Begun inputs (view self.new) (M.recalls memo.new) (start_refusal inputs))
+            (λ f. Stopped (view self.old) (view self.new) (M.recalls memo.old) (M.recalls memo.new) (start_refusal inputs) f) }
         ensures room { room self.new ≡ room self.old }
-        ensures kept { OnOk result ((o : Ops) → Kept o (room self.old) [] (view self.new) (recalls memo.new)) }
+        ensures kept { OnOk result ((o : Ops) → Kept o (room self.old) [] (view self.new) (M.recalls memo.new)) }
     {
         if inputs > MOST_INPUTS {
             return Err(TableFault::TooManyInputs);
@@ -42,21 +42,21 @@ impl Table {
         memo: &mut M,
         input: u8,
     ) -> Result<u32, TableFault>
-        ensures shape { Shape (view self.old) (view self.new) (recalls memo.old) (recalls memo.new) (input_refusal (view self.old) input) result }
-        ensures meaning { Meaning ops (room self.old) (view self.old) (view self.new) (recalls memo.old) (recalls memo.new) (input_signal (view self.old).inputs input) result }
+        ensures shape { Shape (view self.old) (view self.new) (M.recalls memo.old) (M.recalls memo.new) (input_refusal (view self.old) input) result }
+        ensures meaning { Meaning G.ops (room self.old) (view self.old) (view self.new) (M.recalls memo.old) (M.recalls memo.new) (input_signal (view self.old).inputs input) result }
         ensures room { room self.new ≡ room self.old }
         ensures fits { (view self.new).used ≤ room self.new }
-        ensures kept { (run : Run) → Kept ops (room self.old) run (view self.old) (recalls memo.old) → Kept ops (room self.old) (input_event input (answer_of result) ∷ run) (view self.new) (recalls memo.new) }
+        ensures kept { (run : Run) → Kept G.ops (room self.old) run (view self.old) (M.recalls memo.old) → Kept G.ops (room self.old) (input_event input (answer_of result) ∷ run) (view self.new) (M.recalls memo.new) }
     {
         self.input_step(algebra, memo, input)
     }
 
     // The handle of a value, which is its code. It takes no place, so that table and memo stay as they are.
     pub fn constant<G: Algebra>(&self, algebra: &G, code: u8) -> Result<u32, TableFault>
-        ensures shape { (P : Pairs) → Shape (view self.now) (view self.now) P P (constant_refusal ops code) result }
-        ensures meaning { (P : Pairs) → Meaning ops (room self.now) (view self.now) (view self.now) P P (constant_signal code) result }
+        ensures shape { (P : Pairs) → Shape (view self.now) (view self.now) P P (constant_refusal G.ops code) result }
+        ensures meaning { (P : Pairs) → Meaning G.ops (room self.now) (view self.now) (view self.now) P P (constant_signal code) result }
         ensures fits { (view self.now).used ≤ room self.now }
-        ensures kept { (P : Pairs) (run : Run) → Kept ops (room self.now) run (view self.now) P → Kept ops (room self.now) (constant_event code (answer_of result) ∷ run) (view self.now) P }
+        ensures kept { (P : Pairs) (run : Run) → Kept G.ops (room self.now) run (view self.now) P → Kept G.ops (room self.now) (constant_event code (answer_of result) ∷ run) (view self.now) P }
     {
         self.constant_step(algebra, code)
     }
@@ -69,11 +69,11 @@ impl Table {
         rows: &mut [Row],
         x: u32,
     ) -> Result<u32, TableFault>
-        ensures shape { Shape (view self.old) (view self.new) (recalls memo.old) (recalls memo.new) (turn_refusal ops (view self.old) (length rows.old) x) result }
-        ensures meaning { Meaning ops (room self.old) (view self.old) (view self.new) (recalls memo.old) (recalls memo.new) (turned ops (value ops (view self.old) x)) result }
+        ensures shape { Shape (view self.old) (view self.new) (M.recalls memo.old) (M.recalls memo.new) (turn_refusal G.ops (view self.old) (length rows.old) x) result }
+        ensures meaning { Meaning G.ops (room self.old) (view self.old) (view self.new) (M.recalls memo.old) (M.recalls memo.new) (turned G.ops (value G.ops (view self.old) x)) result }
         ensures room { room self.new ≡ room self.old }
         ensures fits { (view self.new).used ≤ room self.new }
-        ensures kept { (run : Run) → Kept ops (room self.old) run (view self.old) (recalls memo.old) → Kept ops (room self.old) (turn_event (given ops (view self.old) x) (answer_of result) ∷ run) (view self.new) (recalls memo.new) }
+        ensures kept { (run : Run) → Kept G.ops (room self.old) run (view self.old) (M.recalls memo.old) → Kept G.ops (room self.old) (turn_event (given G.ops (view self.old) x) (answer_of result) ∷ run) (view self.new) (M.recalls memo.new) }
     {
         self.turn_step(algebra, memo, rows, x)
     }
@@ -88,11 +88,11 @@ impl Table {
         x: u32,
         y: u32,
     ) -> Result<u32, TableFault>
-        ensures shape { Shape (view self.old) (view self.new) (recalls memo.old) (recalls memo.new) (join_refusal ops (view self.old) (length rows.old) op x y) result }
-        ensures meaning { Meaning ops (room self.old) (view self.old) (view self.new) (recalls memo.old) (recalls memo.new) (joined ops op (value ops (view self.old) x) (value ops (view self.old) y)) result }
+        ensures shape { Shape (view self.old) (view self.new) (M.recalls memo.old) (M.recalls memo.new) (join_refusal G.ops (view self.old) (length rows.old) op x y) result }
+        ensures meaning { Meaning G.ops (room self.old) (view self.old) (view self.new) (M.recalls memo.old) (M.recalls memo.new) (joined G.ops op (value G.ops (view self.old) x) (value G.ops (view self.old) y)) result }
         ensures room { room self.new ≡ room self.old }
         ensures fits { (view self.new).used ≤ room self.new }
-        ensures kept { (run : Run) → Kept ops (room self.old) run (view self.old) (recalls memo.old) → Kept ops (room self.old) (join_event op (given ops (view self.old) x) (given ops (view self.old) y) (answer_of result) ∷ run) (view self.new) (recalls memo.new) }
+        ensures kept { (run : Run) → Kept G.ops (room self.old) run (view self.old) (M.recalls memo.old) → Kept G.ops (room self.old) (join_event op (given G.ops (view self.old) x) (given G.ops (view self.old) y) (answer_of result) ∷ run) (view self.new) (M.recalls memo.new) }
     {
         self.join_step(algebra, memo, rows, op, x, y)
     }

@@ -1,4 +1,6 @@
 // Shared decision diagrams of signals: records with NOT marks, one handle for one signal.
+#![tactic(auto)]
+
 mod calls;
 mod codes;
 mod handle;

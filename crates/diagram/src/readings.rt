@@ -20,7 +20,7 @@ mod support;
 // The NOT of a value where the handle is marked.
 fn under_mark<G: Algebra>(algebra: &G, h: u32, code: u8) -> u8
     requires { 16 ≤ h }
-    ensures { result ≡ under_mark ops h code }
+    ensures { result ≡ under_mark G.ops h code }
 {
     if is_marked(h) {
         algebra.turn(code)
@@ -32,7 +32,7 @@ fn under_mark<G: Algebra>(algebra: &G, h: u32, code: u8) -> u8
 impl Table {
     // Whether `h` is a constant of the algebra, or a place in use that is marked only where it may be.
     pub fn is_lawful<G: Algebra>(&self, algebra: &G, h: u32) -> bool
-        ensures { result ≡ lawful ops (view self.now) h }
+        ensures { result ≡ lawful G.ops (view self.now) h }
     {
         self.lawful(algebra, Codes::of(algebra), h)
     }
@@ -66,7 +66,7 @@ impl Table {
     fn value_in_use<G: Algebra>(&self, algebra: &G, h: u32, pattern: Pattern) -> u8
         requires within { Within (view self.now) h }
         requires wide { pattern.width ≡ (view self.now).inputs }
-        ensures { result ≡ value ops (view self.now) h pattern.number }
+        ensures { result ≡ value G.ops (view self.now) h pattern.number }
     {
         if is_constant(h) {
             return h as u8;
@@ -77,7 +77,7 @@ impl Table {
 
     // The value of a handle on a pattern.
     pub fn value<G: Algebra>(&self, algebra: &G, h: u32, pattern: Pattern) -> Result<u8, TableFault>
-        ensures { result ≡ unless_refused (value_refusal ops (view self.now) h pattern.width) (value ops (view self.now) h pattern.number) }
+        ensures { result ≡ unless_refused (value_refusal G.ops (view self.now) h pattern.width) (value G.ops (view self.now) h pattern.number) }
     {
         if !self.is_lawful(algebra, h) {
             return Err(TableFault::NoSuchHandle);
@@ -90,8 +90,8 @@ impl Table {
 
     // The mask of the values that a handle has: bit v is up if it has the value v on some pattern.
     pub fn reach<G: Algebra>(&self, algebra: &G, h: u32) -> Result<u16, TableFault>
-        ensures mask { result ≡ unless_refused (reach_refusal ops (view self.now) h) (reach_of ops (view self.now) h) }
-        ensures meaning { Sound ops (view self.now) → IfOk result (λ m. (v : ℕ) → Decides (up m v) (Occurs ops (view self.now) h v)) }
+        ensures mask { result ≡ unless_refused (reach_refusal G.ops (view self.now) h) (reach_of G.ops (view self.now) h) }
+        ensures meaning { Sound G.ops (view self.now) → IfOk result (λ m. (v : ℕ) → Decides (up m v) (Occurs G.ops (view self.now) h v)) }
     {
         if !self.is_lawful(algebra, h) {
             return Err(TableFault::NoSuchHandle);

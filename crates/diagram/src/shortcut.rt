@@ -25,14 +25,14 @@ fn operand(h: u32, v: u8) -> u8
 
 // What the operator gives where the operand that is no constant has the value `v`.
 fn value_at<G: Algebra>(algebra: &G, op: u8, x: u32, y: u32, v: u8) -> u8
-    ensures { result ≡ combine ops op (operand x v) (operand y v) }
+    ensures { result ≡ combine G.ops op (operand x v) (operand y v) }
 {
     leaf(algebra, op, operand(x, v), operand(y, v))
 }
 
 // Whether the operator gives one certain value for each value of a mask, or, where none is wanted, that value itself.
 fn gives<G: Algebra>(algebra: &G, op: u8, x: u32, y: u32, reach: u16, wanted: Option<u8>) -> bool
-    ensures { T result → Gives ops op x y reach wanted }
+    ensures { T result → Gives G.ops op x y reach wanted }
 {
     for v in 0..algebra.value_count().min(MOST_CODES) {
         if is_up(reach, v) && value_at(algebra, op, x, y, v) != wanted.unwrap_or(v) {
@@ -63,7 +63,7 @@ fn by_values<G: Algebra>(
 ) -> Option<u32>
     requires lead { Within (view table.now) lead }
     requires leads { Leads x y lead }
-    ensures { IfSome result (Short ops (view table.now) op x y) }
+    ensures { IfSome result (Short G.ops (view table.now) op x y) }
 {
     let reach = table.reach_of(algebra, lead);
     if gives(algebra, op, x, y, reach, None) {
@@ -86,7 +86,7 @@ pub(crate) fn shortcut<G: Algebra>(
 ) -> Option<u32>
     requires x { Within (view table.now) x }
     requires y { Within (view table.now) y }
-    ensures { IfSome result (Short ops (view table.now) op x y) }
+    ensures { IfSome result (Short G.ops (view table.now) op x y) }
 {
     if is_constant(x) {
         return by_values(table, algebra, op, x, y, y);

@@ -31,8 +31,8 @@ impl Table {
         memo: &mut M,
         input: u8,
     ) -> Result<u32, TableFault>
-        ensures shape { Shape (view self.old) (view self.new) (recalls memo.old) (recalls memo.new) (input_refusal (view self.old) input) result }
-        ensures meaning { Meaning ops (room self.old) (view self.old) (view self.new) (recalls memo.old) (recalls memo.new) (input_signal (view self.old).inputs input) result }
+        ensures shape { Shape (view self.old) (view self.new) (M.recalls memo.old) (M.recalls memo.new) (input_refusal (view self.old) input) result }
+        ensures meaning { Meaning G.ops (room self.old) (view self.old) (view self.new) (M.recalls memo.old) (M.recalls memo.new) (input_signal (view self.old).inputs input) result }
         ensures room { room self.new ≡ room self.old }
         ensures fits { (view self.new).used ≤ room self.new }
     {
@@ -51,8 +51,8 @@ impl Table {
 
     // The handle of a value, which is its code. It takes no place, so that table and memo stay as they are.
     pub(crate) fn constant_step<G: Algebra>(&self, algebra: &G, code: u8) -> Result<u32, TableFault>
-        ensures shape { (P : Pairs) → Shape (view self.now) (view self.now) P P (constant_refusal ops code) result }
-        ensures meaning { (P : Pairs) → Meaning ops (room self.now) (view self.now) (view self.now) P P (constant_signal code) result }
+        ensures shape { (P : Pairs) → Shape (view self.now) (view self.now) P P (constant_refusal G.ops code) result }
+        ensures meaning { (P : Pairs) → Meaning G.ops (room self.now) (view self.now) (view self.now) P P (constant_signal code) result }
         ensures fits { (view self.now).used ≤ room self.now }
     {
         if code >= algebra.value_count() {
@@ -72,13 +72,13 @@ impl Table {
         x: u32,
         y: u32,
     ) -> Result<u32, TableFault>
-        requires codes { codes ≡ codes_of ops }
+        requires codes { codes ≡ codes_of G.ops }
         requires x { Within (view self.old) x }
         requires y { Within (view self.old) y }
         requires rows { (view self.old).inputs < length rows.old }
-        ensures shape { Shape (view self.old) (view self.new) (recalls memo.old) (recalls memo.new) None result }
-        ensures meaning { Sound ops (view self.old) → TruePairs ops (view self.old) (recalls memo.old) → Lawful ops (view self.old) x → Lawful ops (view self.old) y
-            → Means ops (room self.old) (view self.old) (view self.new) (recalls memo.new) (combined ops (view self.old) op x y) result }
+        ensures shape { Shape (view self.old) (view self.new) (M.recalls memo.old) (M.recalls memo.new) None result }
+        ensures meaning { Sound G.ops (view self.old) → TruePairs G.ops (view self.old) (M.recalls memo.old) → Lawful G.ops (view self.old) x → Lawful G.ops (view self.old) y
+            → Means G.ops (room self.old) (view self.old) (view self.new) (M.recalls memo.new) (combined G.ops (view self.old) op x y) result }
         ensures room { room self.new ≡ room self.old }
     {
         let used = self.used();
@@ -99,8 +99,8 @@ impl Table {
         rows: &mut [Row],
         x: u32,
     ) -> Result<u32, TableFault>
-        ensures shape { Shape (view self.old) (view self.new) (recalls memo.old) (recalls memo.new) (turn_refusal ops (view self.old) (length rows.old) x) result }
-        ensures meaning { Meaning ops (room self.old) (view self.old) (view self.new) (recalls memo.old) (recalls memo.new) (turned ops (value ops (view self.old) x)) result }
+        ensures shape { Shape (view self.old) (view self.new) (M.recalls memo.old) (M.recalls memo.new) (turn_refusal G.ops (view self.old) (length rows.old) x) result }
+        ensures meaning { Meaning G.ops (room self.old) (view self.old) (view self.new) (M.recalls memo.old) (M.recalls memo.new) (turned G.ops (value G.ops (view self.old) x)) result }
         ensures room { room self.new ≡ room self.old }
         ensures fits { (view self.new).used ≤ room self.new }
     {
@@ -124,8 +124,8 @@ impl Table {
         x: u32,
         y: u32,
     ) -> Result<u32, TableFault>
-        ensures shape { Shape (view self.old) (view self.new) (recalls memo.old) (recalls memo.new) (join_refusal ops (view self.old) (length rows.old) op x y) result }
-        ensures meaning { Meaning ops (room self.old) (view self.old) (view self.new) (recalls memo.old) (recalls memo.new) (joined ops op (value ops (view self.old) x) (value ops (view self.old) y)) result }
+        ensures shape { Shape (view self.old) (view self.new) (M.recalls memo.old) (M.recalls memo.new) (join_refusal G.ops (view self.old) (length rows.old) op x y) result }
+        ensures meaning { Meaning G.ops (room self.old) (view self.old) (view self.new) (M.recalls memo.old) (M.recalls memo.new) (joined G.ops op (value G.ops (view self.old) x) (value G.ops (view self.old) y)) result }
         ensures room { room self.new ≡ room self.old }
         ensures fits { (view self.new).used ≤ room self.new }
     {

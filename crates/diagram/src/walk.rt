@@ -19,7 +19,7 @@ pub(crate) const TURN: u8 = 2;
 
 // What stands at a leaf of the walk.
 pub(crate) fn leaf<G: Algebra>(algebra: &G, op: u8, x: u8, y: u8) -> u8
-    ensures { result ≡ combine ops op x y }
+    ensures { result ≡ combine G.ops op x y }
 {
     if op == TURN {
         algebra.turn(x)
@@ -41,14 +41,14 @@ pub(crate) fn walk<G: Algebra, M: Memo>(
     x: u32,
     y: u32,
 ) -> Result<u32, Full>
-    requires codes { codes ≡ codes_of ops }
+    requires codes { codes ≡ codes_of G.ops }
     requires x { Within (view table.old) x }
     requires y { Within (view table.old) y }
     requires rows { (view table.old).inputs < length rows.old + min (level (view table.old) x) (level (view table.old) y) }
     ensures grows { Grows (view table.old) (view table.new) }
     ensures room { room table.new ≡ room table.old }
     ensures shape { WalkShape (view table.old) (view table.new) x y result }
-    ensures meaning { Walked ops (room table.old) (view table.old) (view table.new) (recalls memo.old) (recalls memo.new) op x y result }
+    ensures meaning { Walked G.ops (room table.old) (view table.old) (view table.new) (M.recalls memo.old) (M.recalls memo.new) op x y result }
 {
     if is_constant(x) && is_constant(y) {
         return Ok(leaf(algebra, op, x as u8, y as u8) as u32);

@@ -51,7 +51,7 @@ fn is_before(order: &[u8], grade: u8, than: u8) -> bool
 
 // The finding over the patterns up to this one, from that over the patterns before it.
 fn regrade<G: Algebra>(algebra: &G, old: Finding, number: u64, left: u8, right: u8) -> Finding
-    ensures { (s t : Signal) → s number ≡ left → t number ≡ right → old ≡ finding_below ops number s t → result ≡ finding_below ops (number + 1) s t }
+    ensures { (s t : Signal) → s number ≡ left → t number ≡ right → old ≡ finding_below G.ops number s t → result ≡ finding_below G.ops (number + 1) s t }
 {
     let grade = algebra.operate(Op::Grade, left, right);
     let new = Finding::Differs(Difference {
@@ -74,9 +74,9 @@ fn regrade<G: Algebra>(algebra: &G, old: Finding, number: u64, left: u8, right: 
 
 // The values of the OUT lines on a pattern, into the front of a list.
 fn out_values<G: Algebra>(algebra: &G, lines: &[Line], pattern: Pattern, values: &mut [u8])
-    requires accepted { first_fault ops pattern.width 0 lines.now ≡ None }
+    requires accepted { first_fault G.ops pattern.width 0 lines.now ≡ None }
     requires room { length lines.now ≤ length values.old }
-    ensures { take (out_count lines.now) values.new ≡ values_at pattern.number (outs lines.now (line_signals ops pattern.width lines.now)) }
+    ensures { take (out_count lines.now) values.new ≡ values_at pattern.number (outs lines.now (line_signals G.ops pattern.width lines.now)) }
 {
     fill_values(algebra, lines, pattern, values);
     keep_outs(lines, values);
@@ -92,7 +92,7 @@ fn regrade_pairs<G: Algebra>(
 )
     requires left { length findings.old ≤ length left.now }
     requires right { length findings.old ≤ length right.now }
-    ensures { (ss ts : List Signal) → length ss ≡ length findings.old → length ts ≡ length ss → take (length ss) left.now ≡ values_at number ss → take (length ss) right.now ≡ values_at number ts → findings.old ≡ zipped (finding_below ops number) ss ts → findings.new ≡ zipped (finding_below ops (number + 1)) ss ts }
+    ensures { (ss ts : List Signal) → length ss ≡ length findings.old → length ts ≡ length ss → take (length ss) left.now ≡ values_at number ss → take (length ss) right.now ≡ values_at number ts → findings.old ≡ zipped (finding_below G.ops number) ss ts → findings.new ≡ zipped (finding_below G.ops (number + 1)) ss ts }
 {
     for (pair, finding) in findings.iter_mut().enumerate() {
         *finding = regrade(algebra, *finding, number, left[pair], right[pair]);
@@ -110,8 +110,8 @@ pub fn check_comparison<G: Algebra>(
     rows: usize,
 ) -> Result<usize, ComparisonFault>
     ensures { MatchResult result
-        (λ pairs. (pairs ≡ out_count first.now) × Accepted ops inputs first.now second.now room rows)
-        (λ e. Refused ops inputs first.now second.now room rows e) }
+        (λ pairs. (pairs ≡ out_count first.now) × Accepted G.ops inputs first.now second.now room rows)
+        (λ e. Refused G.ops inputs first.now second.now room rows e) }
 {
     if inputs > 60 {
         return Err(ComparisonFault::TooManyInputs);
@@ -144,10 +144,10 @@ fn try_pattern<G: Algebra>(
     values: &mut [u8],
     findings: &mut [Finding],
 )
-    requires accepted { Accepted ops pattern.width first.now second.now (length values.old) (length findings.old) }
+    requires accepted { Accepted G.ops pattern.width first.now second.now (length values.old) (length findings.old) }
     requires pairs { length findings.old ≡ out_count first.now }
     ensures rest { drop (length first.now + length second.now) values.new ≡ drop (length first.now + length second.now) values.old }
-    ensures graded { findings.old ≡ findings_below ops pattern.width pattern.number first.now second.now → findings.new ≡ findings_below ops pattern.width (pattern.number + 1) first.now second.now }
+    ensures graded { findings.old ≡ findings_below G.ops pattern.width pattern.number first.now second.now → findings.new ≡ findings_below G.ops pattern.width (pattern.number + 1) first.now second.now }
 {
     let middle = first.len();
     let end = middle + second.len();
@@ -171,10 +171,10 @@ fn try_patterns<G: Algebra>(
     values: &mut [u8],
     found: &mut [Finding],
 )
-    requires accepted { Accepted ops inputs first.now second.now (length values.old) (length found.old) }
+    requires accepted { Accepted G.ops inputs first.now second.now (length values.old) (length found.old) }
     requires pairs { length found.old ≡ out_count first.now }
     ensures rest { drop (length first.now + length second.now) values.new ≡ drop (length first.now + length second.now) values.old }
-    ensures found { found.new ≡ findings ops inputs first.now second.now }
+    ensures found { found.new ≡ findings G.ops inputs first.now second.now }
 {
     for finding in found.iter_mut() {
         *finding = Finding::Clean;
@@ -198,9 +198,9 @@ pub fn compare_by_patterns<G: Algebra>(
     found: &mut [Finding],
 ) -> Result<usize, ComparisonFault>
     ensures answer { MatchResult result
-        (λ pairs. (pairs ≡ out_count first.now) × Accepted ops inputs first.now second.now (length values.old) (length found.old) × (found.new ≡ findings ops inputs first.now second.now ++ drop pairs found.old))
-        (λ e. Refused ops inputs first.now second.now (length values.old) (length found.old) e × (found.new ≡ found.old) × (values.new ≡ values.old)) }
-    ensures verdicts { IfOk result (λ pairs. (k : ℕ) → k < pairs → Verdict ops inputs (out_signal ops inputs first.now k) (out_signal ops inputs second.now k) (slice_index_or found.new k Clean)) }
+        (λ pairs. (pairs ≡ out_count first.now) × Accepted G.ops inputs first.now second.now (length values.old) (length found.old) × (found.new ≡ findings G.ops inputs first.now second.now ++ drop pairs found.old))
+        (λ e. Refused G.ops inputs first.now second.now (length values.old) (length found.old) e × (found.new ≡ found.old) × (values.new ≡ values.old)) }
+    ensures verdicts { IfOk result (λ pairs. (k : ℕ) → k < pairs → Verdict G.ops inputs (out_signal G.ops inputs first.now k) (out_signal G.ops inputs second.now k) (slice_index_or found.new k Clean)) }
     ensures rest { drop (length first.now + length second.now) values.new ≡ drop (length first.now + length second.now) values.old }
 {
     let pairs = check_comparison(algebra, inputs, first, second, values.len(), found.len())?;

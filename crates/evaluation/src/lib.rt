@@ -1,4 +1,6 @@
 // The evaluator of netlists that goes pattern by pattern, and the comparison by trying every pattern.
+#![tactic(auto)]
+
 mod comparison;
 mod values;
 

@@ -16,9 +16,9 @@ fn line_value<G: Algebra>(
     line: Line,
     values: &[u8],
 ) -> u8
-    requires accepted { line_fault ops pattern.width number line ≡ None }
+    requires accepted { line_fault G.ops pattern.width number line ≡ None }
     requires within { number ≤ length values.now }
-    ensures { (ss : List Signal) → length ss ≡ number → Valued pattern.number ss values.now → result ≡ line_signal ops pattern.width ss line pattern.number }
+    ensures { (ss : List Signal) → length ss ≡ number → Valued pattern.number ss values.now → result ≡ line_signal G.ops pattern.width ss line pattern.number }
 {
     match Kind::from_number(line.kind) {
         Some(Kind::Input) => pattern.bit(line.first as u8),
@@ -40,9 +40,9 @@ pub(crate) fn fill_values<G: Algebra>(
     pattern: Pattern,
     values: &mut [u8],
 )
-    requires accepted { first_fault ops pattern.width 0 lines.now ≡ None }
+    requires accepted { first_fault G.ops pattern.width 0 lines.now ≡ None }
     requires room { length lines.now ≤ length values.old }
-    ensures { values.new ≡ values_at pattern.number (line_signals ops pattern.width lines.now) ++ drop (length lines.now) values.old }
+    ensures { values.new ≡ values_at pattern.number (line_signals G.ops pattern.width lines.now) ++ drop (length lines.now) values.old }
 {
     for (number, line) in lines.iter().enumerate() {
         values[number] = line_value(algebra, pattern, number, *line, values);
@@ -57,8 +57,8 @@ pub fn evaluate<G: Algebra>(
     values: &mut [u8],
 ) -> Result<(), EvaluationFault>
     ensures { MatchResult result
-        (λ _. (first_fault ops pattern.width 0 lines.now ≡ None) × (length lines.now ≤ length values.old) × (values.new ≡ values_at pattern.number (line_signals ops pattern.width lines.now) ++ drop (length lines.now) values.old))
-        (λ e. Refused ops pattern.width lines.now (length values.old) e × (values.new ≡ values.old)) }
+        (λ _. (first_fault G.ops pattern.width 0 lines.now ≡ None) × (length lines.now ≤ length values.old) × (values.new ≡ values_at pattern.number (line_signals G.ops pattern.width lines.now) ++ drop (length lines.now) values.old))
+        (λ e. Refused G.ops pattern.width lines.now (length values.old) e × (values.new ≡ values.old)) }
 {
     if values.len() < lines.len() {
         return Err(EvaluationFault::ShortList);

@@ -31,14 +31,14 @@ fn make_line<G: Algebra, M: Memo>(
     line: Line,
     handles: &[u32],
 ) -> Result<u32, TableFault>
-    requires accepted { line_fault ops (view table.old).inputs number line ≡ None }
+    requires accepted { line_fault G.ops (view table.old).inputs number line ≡ None }
     requires within { number ≤ length handles.now }
     requires rows { (view table.old).inputs < length rows.old }
     ensures outcome { MatchResult result
         (λ _. Grows (view table.old) (view table.new))
-        (λ f. Back (view table.old) (view table.old).used (view table.new) × TableRefuses ops (view table.new) (take number handles.now) f) }
+        (λ f. Back (view table.old) (view table.old).used (view table.new) × TableRefuses G.ops (view table.new) (take number handles.now) f) }
     ensures room { room table.new ≡ room table.old }
-    ensures kept { LineKept ops (room table.old) (view table.old) (view table.new) (recalls memo.old) (recalls memo.new) (take number handles.now) line (answer_of result) }
+    ensures kept { LineKept G.ops (room table.old) (view table.old) (view table.new) (M.recalls memo.old) (M.recalls memo.new) (take number handles.now) line (answer_of result) }
 {
     if line.kind == INPUT {
         return table.input(algebra, memo, line.first as u8);
@@ -75,9 +75,9 @@ fn lay_line<G: Algebra, M: Memo>(
 ) -> Result<u32, LineReason>
     requires within { number ≤ length handles.now }
     requires rows { (view table.old).inputs < length rows.old }
-    ensures lined { Lined ops (view table.old) (view table.new) (recalls memo.old) (recalls memo.new) (take number handles.now) number line result }
+    ensures lined { Lined G.ops (view table.old) (view table.new) (M.recalls memo.old) (M.recalls memo.new) (take number handles.now) number line result }
     ensures room { room table.new ≡ room table.old }
-    ensures kept { LineKept ops (room table.old) (view table.old) (view table.new) (recalls memo.old) (recalls memo.new) (take number handles.now) line (line_answer result) }
+    ensures kept { LineKept G.ops (room table.old) (view table.old) (view table.new) (M.recalls memo.old) (M.recalls memo.new) (take number handles.now) line (line_answer result) }
 {
     if let Some(fault) = fault_of(algebra, table.inputs(), number, line) {
         return Err(LineReason::Line(fault));
@@ -96,10 +96,10 @@ pub fn lay<G: Algebra, M: Memo>(
     lines: &[Line],
     handles: &mut [u32],
 ) -> Result<(), LayFault>
-    ensures laid { Laid ops (view table.old) (view table.new) (recalls memo.old) (recalls memo.new) (length rows.old) lines.now handles.old handles.new result }
+    ensures laid { Laid G.ops (view table.old) (view table.new) (M.recalls memo.old) (M.recalls memo.new) (length rows.old) lines.now handles.old handles.new result }
     ensures room { room table.new ≡ room table.old }
-    ensures kept { (run : Run) → Kept ops (room table.old) run (view table.old) (recalls memo.old)
-        → Kept ops (room table.old) (lay lines.now (lay_answers lines.now handles.new result) ∷ run) (view table.new) (recalls memo.new) }
+    ensures kept { (run : Run) → Kept G.ops (room table.old) run (view table.old) (M.recalls memo.old)
+        → Kept G.ops (room table.old) (lay lines.now (lay_answers lines.now handles.new result) ∷ run) (view table.new) (M.recalls memo.new) }
 {
     if handles.len() < lines.len() {
         return Err(LayFault::ShortList);

@@ -1,4 +1,6 @@
 // Memos of a walk: what was made for an operator and two handles. With them stands the hash of such keys.
+#![tactic(auto)]
+
 mod hash;
 mod memo;
 mod rows;

@@ -12,7 +12,7 @@ const OUT: u8 = 8;
 
 // Why a line is refused, if it is, from its number and the number of inputs.
 pub fn fault_of<G: Algebra>(algebra: &G, inputs: u8, number: usize, line: Line) -> Option<LineFault>
-    ensures { result ≡ line_fault ops inputs number line }
+    ensures { result ≡ line_fault G.ops inputs number line }
 {
     let Some(kind) = Kind::from_number(line.kind) else {
         return Some(LineFault::NoSuchKind);
@@ -54,8 +54,8 @@ pub fn fault_of<G: Algebra>(algebra: &G, inputs: u8, number: usize, line: Line) 
 // Whether each line has a kind that there is and operands that it may have; else the first that has not.
 pub fn check_lines<G: Algebra>(algebra: &G, inputs: u8, lines: &[Line]) -> Result<(), NetlistFault>
     ensures { MatchResult result
-        (λ _. first_fault ops inputs 0 lines.now ≡ None)
-        (λ e. first_fault ops inputs 0 lines.now ≡ Some e) }
+        (λ _. first_fault G.ops inputs 0 lines.now ≡ None)
+        (λ e. first_fault G.ops inputs 0 lines.now ≡ Some e) }
 {
     for (number, line) in lines.iter().enumerate() {
         if let Some(fault) = fault_of(algebra, inputs, number, *line) {

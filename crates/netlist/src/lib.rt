@@ -1,4 +1,6 @@
 // Combinational netlists: their lines and patterns, and what the lines mean.
+#![tactic(auto)]
+
 mod cases;
 mod checks;
 mod fault;

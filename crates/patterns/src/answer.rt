@@ -65,7 +65,7 @@ fn put_report<G: Algebra>(
     requires inputs { inputs ≤ 16 }
     requires pairs { length findings.now ≤ 512 }
     ensures within { result ≤ 40000 }
-    ensures text { take result out.new ≡ summary_row pairs Tried (2 ^ inputs) ++ findings_text ops.letter inputs 0 findings.now }
+    ensures text { take result out.new ≡ summary_row pairs Tried (2 ^ inputs) ++ findings_text G.ops.letter inputs 0 findings.now }
 {
     let Some(at) = write_summary(out, 0, pairs, Summary::Tried, 1 << inputs) else {
         unreachable()
@@ -103,7 +103,7 @@ fn put_comparison<G: Algebra>(
     requires findings { length findings.old ≡ 512 }
     requires out { length out.old ≡ 40000 }
     ensures within { result ≤ 40000 }
-    ensures text { take result out.new ≡ compared ops inputs first.now second.now }
+    ensures text { take result out.new ≡ compared G.ops inputs first.now second.now }
 {
     if inputs > INPUTS {
         return match check_comparison(

@@ -1,4 +1,6 @@
 // Compares two netlists, which stand one after the other on standard input, by trying every pattern.
+#![tactic(auto)]
+
 mod answer;
 
 use answer::answer;

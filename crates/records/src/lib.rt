@@ -1,5 +1,7 @@
 // Records of decision diagrams, as definitions and theorems: what lists of records mean, what calls on a table of them
 // are to answer, and the law of runs.
+#![tactic(auto)]
+
 mod fault;
 mod record;
 mod row;

@@ -34,7 +34,7 @@ fn put_comparison<G: Algebra, M: Memo>(
     requires findings { length findings.old ≡ length found.old }
     requires report { 19 + 73 * length found.old ≤ length out.old }
     requires fault { 25 ≤ length out.old }
-    ensures text { Written (compared (room table.old) ops inputs first.now second.now) 0 out.old out.new result }
+    ensures text { Written (compared (room table.old) G.ops inputs first.now second.now) 0 out.old out.new result }
     ensures room { room table.new ≡ room table.old }
 {
     let Ok(()) = table.start(memo, inputs) else {

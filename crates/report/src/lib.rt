@@ -1,4 +1,6 @@
 // The report on two netlists, from their text to the printed answer.
+#![tactic(auto)]
+
 mod comparing;
 mod fault;
 mod putting;

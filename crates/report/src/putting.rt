@@ -68,7 +68,7 @@ pub(crate) fn put_report<G: Algebra>(
     requires few { length found.now < 100000 }
     requires even { length findings.old ≡ length found.now }
     requires room { 19 + 73 * length found.now ≤ length out.old }
-    ensures { Written (summary_row (length found.now) Report used ++ findings_text ops.letter inputs 0 (row_findings found.now)) 0 out.old out.new result }
+    ensures { Written (summary_row (length found.now) Report used ++ findings_text G.ops.letter inputs 0 (row_findings found.now)) 0 out.old out.new result }
 {
     copy_findings(found, findings);
     let Some(at) = write_summary(out, 0, found.len() as u32, Summary::Report, used) else {

@@ -1,4 +1,6 @@
 // Rows of 24 characters and a line feed: the reader of netlists and the writers of report rows.
+#![tactic(auto)]
+
 mod fault;
 mod field;
 mod header;

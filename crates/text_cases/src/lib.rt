@@ -1,4 +1,6 @@
 // Examples of texts: what the reader answers, and what the writers write.
+#![tactic(auto)]
+
 #[cfg(test)]
 mod tests {
     use algebra::FiveValued;

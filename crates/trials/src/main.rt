@@ -1,5 +1,7 @@
 // Trials: netlists and lists of calls, made by a fixed generator, are held to the evaluator that goes pattern by pattern
 // and knows no tables.
+#![tactic(auto)]
+
 mod audit;
 mod book;
 mod calls;

@@ -27,14 +27,14 @@ pub fn check<G: Algebra, M: Memo>(
     x: u32,
     y: u32,
 ) -> Result<Checked, TableFault>
-    ensures shape { Shape (view table.old) (view table.new) (recalls memo.old) (recalls memo.new) (join_refusal ops (view table.old) (length rows.old) 9 x y) (handle_of result) }
-    ensures meaning { Meaning ops (room table.old) (view table.old) (view table.new) (recalls memo.old) (recalls memo.new) (joined ops 9 (value ops (view table.old) x) (value ops (view table.old) y)) (handle_of result) }
-    ensures found { Sound ops (view table.old) → TruePairs ops (view table.old) (recalls memo.old)
-        → IfOk result (λ c. c.finding ≡ finding ops (view table.old).inputs (value ops (view table.old) x) (value ops (view table.old) y)) }
+    ensures shape { Shape (view table.old) (view table.new) (M.recalls memo.old) (M.recalls memo.new) (join_refusal G.ops (view table.old) (length rows.old) 9 x y) (handle_of result) }
+    ensures meaning { Meaning G.ops (room table.old) (view table.old) (view table.new) (M.recalls memo.old) (M.recalls memo.new) (joined G.ops 9 (value G.ops (view table.old) x) (value G.ops (view table.old) y)) (handle_of result) }
+    ensures found { Sound G.ops (view table.old) → TruePairs G.ops (view table.old) (M.recalls memo.old)
+        → IfOk result (λ c. c.finding ≡ finding G.ops (view table.old).inputs (value G.ops (view table.old) x) (value G.ops (view table.old) y)) }
     ensures room { room table.new ≡ room table.old }
     ensures fits { (view table.new).used ≤ room table.new }
-    ensures kept { (run : Run) → Kept ops (room table.old) run (view table.old) (recalls memo.old)
-        → Kept ops (room table.old) (check_event ops (view table.old) x y result ∷ run) (view table.new) (recalls memo.new) }
+    ensures kept { (run : Run) → Kept G.ops (room table.old) run (view table.old) (M.recalls memo.old)
+        → Kept G.ops (room table.old) (check_event G.ops (view table.old) x y result ∷ run) (view table.new) (M.recalls memo.new) }
 {
     let handle = table.join(algebra, memo, rows, GRADE, x, y)?;
     let finding = grade_pair(table, algebra, handle, x, y);

@@ -68,7 +68,7 @@ fn make_call<G: Algebra, M: Memo>(
 ) -> Told
     ensures room { room table.new ≡ room table.old }
     ensures inputs { (view table.new).inputs ≡ (view table.old).inputs }
-    ensures made { Called ops (room table.old) (length rows.old) lines.now (state (view table.old) (recalls memo.old) handles.old found.old) call result (state (view table.new) (recalls memo.new) handles.new found.new) }
+    ensures made { Called G.ops (room table.old) (length rows.old) lines.now (state (view table.old) (M.recalls memo.old) handles.old found.old) call result (state (view table.new) (M.recalls memo.new) handles.new found.new) }
     ensures handles { drop (handles_for lines.now call) handles.new ≡ drop (handles_for lines.now call) handles.old }
     ensures found { drop (rows_for lines.now call) found.new ≡ drop (rows_for lines.now call) found.old }
 {
@@ -108,7 +108,7 @@ pub fn replay<G: Algebra, M: Memo>(
     found: &mut [Checked],
     told: &mut [Told],
 ) -> Result<(), ReplayFault>
-    ensures answer { ReplayAnswer ops (room table.old) inputs (length rows.old) lines.now calls.now (state (view table.old) (recalls memo.old) handles.old found.old) (state (view table.new) (recalls memo.new) handles.new found.new) told.old told.new result }
+    ensures answer { ReplayAnswer G.ops (room table.old) inputs (length rows.old) lines.now calls.now (state (view table.old) (M.recalls memo.old) handles.old found.old) (state (view table.new) (M.recalls memo.new) handles.new found.new) told.old told.new result }
     ensures room { room table.new ≡ room table.old }
 {
     if told.len() < calls.len() {

@@ -18,13 +18,13 @@ pub(crate) fn is_up(mask: u16, v: u8) -> bool
 }
 
 fn is_settled_code<G: Algebra>(algebra: &G, v: u8) -> bool
-    ensures { result ≡ settled_code ops v }
+    ensures { result ≡ settled_code G.ops v }
 {
     v < algebra.value_count() && algebra.is_settled(v)
 }
 
 fn is_firm_code<G: Algebra>(algebra: &G, v: u8) -> bool
-    ensures { result ≡ firm_code ops v }
+    ensures { result ≡ firm_code G.ops v }
 {
     is_settled_code(algebra, v) && algebra.turn(v) != v
 }
@@ -39,7 +39,7 @@ fn with(mask: u16, v: u8, add: bool) -> u16
 
 // The NOT of each value in a mask.
 pub(crate) fn turn_mask<G: Algebra>(algebra: &G, mask: u16) -> u16
-    ensures { result ≡ turn_mask ops mask }
+    ensures { result ≡ turn_mask G.ops mask }
 {
     let mut turned = 0;
     for v in 0..MOST_CODES {
@@ -50,7 +50,7 @@ pub(crate) fn turn_mask<G: Algebra>(algebra: &G, mask: u16) -> u16
 
 impl Codes {
     pub(crate) fn of<G: Algebra>(algebra: &G) -> Codes
-        ensures { result ≡ codes_of ops }
+        ensures { result ≡ codes_of G.ops }
     {
         let mut loose = 0;
         let mut firm = 0;

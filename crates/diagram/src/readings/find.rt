@@ -27,10 +27,10 @@ impl Table {
     // first, so the way down takes the 0 side where that reaches the value, and else the 1 side; a skipped input is 0.
     fn first_in_use<G: Algebra>(&self, algebra: &G, h: u32, wanted: u8) -> u64
         requires within { Within (view self.now) h }
-        requires code { wanted < ops.count }
+        requires code { wanted < G.ops.count }
         ensures small { result < 2 ^ ((view self.now).inputs - level (view self.now) h) }
-        ensures first { Sound ops (view self.now) → Lawful ops (view self.now) h → Occurs ops (view self.now) h wanted
-            → first (view self.now).inputs (value ops (view self.now) h) wanted ≡ Some result }
+        ensures first { Sound G.ops (view self.now) → Lawful G.ops (view self.now) h → Occurs G.ops (view self.now) h wanted
+            → first (view self.now).inputs (value G.ops (view self.now) h) wanted ≡ Some result }
     {
         if is_constant(h) {
             return 0;
@@ -51,12 +51,12 @@ impl Table {
         h: u32,
         wanted: u8,
     ) -> Result<Option<u64>, TableFault>
-        ensures refusal { refusal_of result ≡ find_refusal ops (view self.now) h wanted }
+        ensures refusal { refusal_of result ≡ find_refusal G.ops (view self.now) h wanted }
         ensures shape { IfOk result (λ x. MatchOption x
-            (up (reach_of ops (view self.now) h) wanted ≡ false)
-            (λ p. (up (reach_of ops (view self.now) h) wanted ≡ true) × (p < 2 ^ (view self.now).inputs))) }
-        ensures meaning { Sound ops (view self.now)
-            → result ≡ unless_refused (find_refusal ops (view self.now) h wanted) (first (view self.now).inputs (value ops (view self.now) h) wanted) }
+            (up (reach_of G.ops (view self.now) h) wanted ≡ false)
+            (λ p. (up (reach_of G.ops (view self.now) h) wanted ≡ true) × (p < 2 ^ (view self.now).inputs))) }
+        ensures meaning { Sound G.ops (view self.now)
+            → result ≡ unless_refused (find_refusal G.ops (view self.now) h wanted) (first (view self.now).inputs (value G.ops (view self.now) h) wanted) }
     {
         if !self.is_lawful(algebra, h) {
             return Err(TableFault::NoSuchHandle);

@@ -89,11 +89,11 @@ impl Table {
         rows: &mut [Row],
         h: u32,
     ) -> Result<u64, TableFault>
-        ensures refusal { refusal_of result ≡ support_refusal ops (view self.now) (length rows.old) h }
+        ensures refusal { refusal_of result ≡ support_refusal G.ops (view self.now) (length rows.old) h }
         ensures kept { is_err result ≡ true → rows.new ≡ rows.old }
         ensures covers { IfOk result (λ m. Covers (view self.now) m h) }
-        ensures meaning { Sound ops (view self.now)
-            → result ≡ unless_refused (support_refusal ops (view self.now) (length rows.old) h) (support_of (view self.now).inputs (value ops (view self.now) h)) }
+        ensures meaning { Sound G.ops (view self.now)
+            → result ≡ unless_refused (support_refusal G.ops (view self.now) (length rows.old) h) (support_of (view self.now).inputs (value G.ops (view self.now) h)) }
     {
         if rows.len() <= self.inputs() as usize {
             return Err(TableFault::FewRows);

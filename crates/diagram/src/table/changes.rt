@@ -53,7 +53,7 @@ impl Table {
     pub(crate) fn cut_back<M: Memo>(&mut self, memo: &mut M, used: usize)
         requires { used ≤ (view self.old).used }
         ensures back { Back (view self.old) used (view self.new) }
-        ensures memo { NoPairs (recalls memo.new) }
+        ensures memo { NoPairs (M.recalls memo.new) }
         ensures room { room self.new ≡ room self.old }
     {
         self.truncate(used);

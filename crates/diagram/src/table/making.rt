@@ -33,18 +33,18 @@ fn lead_side(codes: Codes, low_reach: u16, low: u32, high: u32) -> u32
 
 // Whether a record with this reach is kept under NOT.
 fn is_turned<G: Algebra>(algebra: &G, codes: Codes, reach: u16, lead: u32) -> bool
-    ensures { result ≡ ((bit_and reach codes.loose == 0 && not (bit_and reach codes.firm == 0)) && not (leads_plain ops lead)) }
+    ensures { result ≡ ((bit_and reach codes.loose == 0 && not (bit_and reach codes.firm == 0)) && not (leads_plain G.ops lead)) }
 {
     codes.may_mark(reach) && !leads_plain(algebra, lead)
 }
 
 impl Table {
     fn kept<G: Algebra>(&self, algebra: &G, codes: Codes, input: u8, low: u32, high: u32) -> Kept
-        requires codes { codes ≡ codes_of ops }
+        requires codes { codes ≡ codes_of G.ops }
         requires low { Within (view self.now) low }
         requires high { Within (view self.now) high }
-        ensures record { result.record ≡ kept ops (view self.now) input low high }
-        ensures turned { result.turned ≡ turns ops (view self.now) low high }
+        ensures record { result.record ≡ kept G.ops (view self.now) input low high }
+        ensures turned { result.turned ≡ turns G.ops (view self.now) low high }
     {
         let low_reach = self.reach_of(algebra, low);
         let reach = low_reach | self.reach_of(algebra, high);
@@ -77,14 +77,14 @@ impl Table {
         low: u32,
         high: u32,
     ) -> Result<u32, Full>
-        requires codes { codes ≡ codes_of ops }
+        requires codes { codes ≡ codes_of G.ops }
         requires inside { input < (view self.old).inputs }
         requires low { Beyond (view self.old) input low }
         requires high { Beyond (view self.old) input high }
         ensures grows { Grows (view self.old) (view self.new) }
         ensures room { room self.new ≡ room self.old }
         ensures shape { MakeShape (view self.old) (view self.new) input result }
-        ensures meaning { Making ops (room self.old) (view self.old) (view self.new) input low high result }
+        ensures meaning { Making G.ops (room self.old) (view self.old) (view self.new) input low high result }
     {
         if low == high {
             return Ok(low);

@@ -22,7 +22,7 @@ fn flip(h: u32) -> u32
 
 // Whether the first firm value of a handle is plain.
 pub(super) fn leads_plain<G: Algebra>(algebra: &G, h: u32) -> bool
-    ensures { result ≡ leads_plain ops h }
+    ensures { result ≡ leads_plain G.ops h }
 {
     if is_constant(h) {
         algebra.is_plain(h as u8)
@@ -35,8 +35,8 @@ impl Table {
     // NOT of a handle that reaches settled values alone.
     pub(crate) fn negate<G: Algebra>(&self, algebra: &G, codes: Codes, h: u32) -> u32
         requires within { Within (view self.now) h }
-        requires codes { codes ≡ codes_of ops }
-        ensures { result ≡ negate ops (view self.now) h }
+        requires codes { codes ≡ codes_of G.ops }
+        ensures { result ≡ negate G.ops (view self.now) h }
     {
         if is_constant(h) {
             algebra.turn(h as u8) as u32
@@ -50,7 +50,7 @@ impl Table {
     // The values that a handle has, as a mask.
     pub(crate) fn reach_of<G: Algebra>(&self, algebra: &G, h: u32) -> u16
         requires { Within (view self.now) h }
-        ensures { result ≡ reach_of ops (view self.now) h }
+        ensures { result ≡ reach_of G.ops (view self.now) h }
     {
         if is_constant(h) {
             return 1 << h;
@@ -65,8 +65,8 @@ impl Table {
 
     // Whether a handle is a code of the algebra or a place in use, marked only where it may be.
     pub(crate) fn lawful<G: Algebra>(&self, algebra: &G, codes: Codes, h: u32) -> bool
-        requires { codes ≡ codes_of ops }
-        ensures { result ≡ lawful ops (view self.now) h }
+        requires { codes ≡ codes_of G.ops }
+        ensures { result ≡ lawful G.ops (view self.now) h }
     {
         if is_constant(h) {
             return h < algebra.value_count() as u32;

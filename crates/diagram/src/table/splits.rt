@@ -29,12 +29,12 @@ impl Table {
 
     // What is left of a handle at an input that it tests first or not at all; under a mark the sides are turned.
     fn cofactors<G: Algebra>(&self, algebra: &G, codes: Codes, h: u32, input: u8) -> Sides
-        requires codes { codes ≡ codes_of ops }
+        requires codes { codes ≡ codes_of G.ops }
         requires within { Within (view self.now) h }
         requires above { input ≤ level (view self.now) h }
         requires inside { input < (view self.now).inputs }
-        ensures low { result.low ≡ cofactor_at ops (view self.now) h input 0 }
-        ensures high { result.high ≡ cofactor_at ops (view self.now) h input 1 }
+        ensures low { result.low ≡ cofactor_at G.ops (view self.now) h input 0 }
+        ensures high { result.high ≡ cofactor_at G.ops (view self.now) h input 1 }
     {
         let sides = self.sides(h, input);
         if self.level(h) != input {
@@ -51,11 +51,11 @@ impl Table {
 
     // Two handles, not both constants, split at the input that either tests first.
     pub(crate) fn cut<G: Algebra>(&self, algebra: &G, codes: Codes, x: u32, y: u32) -> Row
-        requires codes { codes ≡ codes_of ops }
+        requires codes { codes ≡ codes_of G.ops }
         requires x { Within (view self.now) x }
         requires y { Within (view self.now) y }
         requires places { x < 16 → y < 16 → ⊥ }
-        ensures { Cut ops (view self.now) x y result }
+        ensures { Cut G.ops (view self.now) x y result }
     {
         let input = self.level(x).min(self.level(y));
         let first = self.cofactors(algebra, codes, x, input);

@@ -4,10 +4,10 @@ use Rattle.memo.specs.Rows.{blank_row, Past}
 use Rattle.memo.proofs.Epochs.{past_set, past_none, past_more, none_past}
 use Rattle.memo.proofs.rows.RowMemo.sweep.Goals as goal
 
-pub invariant-of-self : goal.invariant-of-self
-invariant-of-self c =
+pub invariant_of-self : goal.invariant_of-self
+invariant_of-self c =
     let m = c.loop-i.self in
-    (m.masked, (past_set m.epoch c.loop-i.i (vec_items m.rows) blank_row (omega arith) (omega arith) m.past, tt))
+    record { masked = m.masked; past = past_set m.epoch c.loop-i.i (vec_items m.rows) blank_row (omega arith) (omega arith) m.past }
 
 pub loop-i-preserved : goal.loop-i-preserved
 loop-i-preserved c =
@@ -16,11 +16,11 @@ loop-i-preserved c =
     let l : i < length rows = omega arith in
     (c.loop-i.invariant.0, below_more _ _ (λ k h. let ne : k ≢ i = omega arith in rw get_or-set_other (c.loop-i.invariant.1 k h)) (rw get_or-set_same))
 
-pub invariant-of-self-2 : goal.invariant-of-self-2
-invariant-of-self-2 c =
+pub invariant_of-self-2 : goal.invariant_of-self-2
+invariant_of-self-2 c =
     let m = c.loop-i.self in
     let blank : Past 0 (vec_items m.rows) = past_none (vec_items m.rows) (λ k l. c.loop-i.invariant.1 k (omega arith)) in
-    (m.masked, (past_more 0 1 _ (omega arith) blank, tt))
+    record { masked = m.masked; past = past_more 0 1 _ (omega arith) blank }
 
 pub returns : goal.returns
 returns c =

@@ -2,10 +2,10 @@ use Rattle.std.proofs.Common.{vec_items, refl, arith}
 use Rattle.memo.proofs.Epochs.{puts_set, past_set}
 use Rattle.memo.proofs.rows.calls.RowMemoMemo.put.Goals as goal
 
-pub invariant-of-self : goal.invariant-of-self
-invariant-of-self c =
+pub invariant_of-self : goal.invariant_of-self
+invariant_of-self c =
     let m = c.args.self.now in
-    (m.masked, (past_set m.epoch c.bucket-i.result (vec_items m.rows) _ (omega arith) (omega arith) m.past, tt))
+    record { masked = m.masked; past = past_set m.epoch c.bucket-i.result (vec_items m.rows) _ (omega arith) (omega arith) m.past }
 
 pub returns : goal.returns
 returns c =
