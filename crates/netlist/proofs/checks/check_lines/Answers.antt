@@ -11,7 +11,7 @@ returns-in-Some g c =
 pub loop-number-preserved : goal.loop-number-preserved
 loop-number-preserved g c =
     let h = c.loop-number-test.true in
-    c.loop-number.invariant ∙ fault_passed g.G.Algebra.ops c.args.inputs c.args.lines.now c.loop-number.number _ h (get_or_default c.args.lines.now c.loop-number.number _ _ h) (sym c.fault-of.ensures ∙ c.in-default.is)
+    c.loop-number.invariant ∙ fault_passed g.G.Algebra.ops c.args.inputs c.args.lines.now c.loop-number.number _ h (get_or_default c.args.lines.now c.loop-number.number _ _ h) (sym c.fault_of.ensures ∙ c.in_default.is)
 
 pub returns : goal.returns
 returns g c = c.loop-number.invariant ∙ fault_none g.G.Algebra.ops c.args.inputs c.args.lines.now c.loop-number.number c.loop-number-test.false
