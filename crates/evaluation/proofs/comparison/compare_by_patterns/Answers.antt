@@ -12,16 +12,16 @@ returns g c =
     let n = c.args.inputs in
     let ls = c.args.first.now in
     let ms = c.args.second.now in
-    let pairs = c.in-ok-pairs.pairs in
-    let ok = c.in-ok-pairs.ensures in
+    let pairs = c.in_ok-pairs.pairs in
+    let ok = c.in_ok-pairs.ensures in
     let es = outs_length ls (line_signals o n ls) (signals_length o n ls) in
     let et = outs_length ms (line_signals o n ms) (signals_length o n ms) in
     let same : pairs - 0 ≡ pairs = omega arith in
-    let whole = ap (λ fs. fs ++ drop (pairs - 0) c.args.found.now) c.try-patterns.ensures.found ∙ ap (λ k. findings o n ls ms ++ drop k c.args.found.now) same in
+    let whole = ap (λ fs. fs ++ drop (pairs - 0) c.args.found.now) c.try_patterns.ensures.found ∙ ap (λ k. findings o n ls ms ++ drop k c.args.found.now) same in
     record {
       answer = (ok.0, ok.1, whole);
       verdicts = λ k h.
           verdicts o g.G.Algebra.laws n (outs ls (line_signals o n ls)) (outs ms (line_signals o n ms)) _ (drop pairs c.args.found.now)
           (let q = ok.1.pairs in omega arith) whole k (let p = ok.0 in omega arith);
-      rest = c.try-patterns.ensures.rest;
+      rest = c.try_patterns.ensures.rest;
     }

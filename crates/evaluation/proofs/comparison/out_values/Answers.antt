@@ -11,8 +11,8 @@ returns g c =
     let p = c.args.pattern.number in
     let ss = line_signals g.G.Algebra.ops c.args.pattern.width ls in
     let same =
-    c.keep-outs.ensures.kept
-    ∙ ap (outs ls) c.fill-values.ensures
+    c.keep_outs.ensures.kept
+    ∙ ap (outs ls) c.fill_values.ensures
     ∙ outs_append ls _ _ (length-map ss (λ s. s p) ∙ signals_length g.G.Algebra.ops c.args.pattern.width ls)
     ∙ outs_map (λ s. s p) ls ss
     in

@@ -13,13 +13,13 @@ returns-else-grade-eq0 g c s t left right known =
     ap (λ v. Differs (record { grade = v; pattern = c.args.number; left = c.args.left; right = c.args.right })) c.operate-grade.ensures
     ∙ first_differs g.G.Algebra.ops g.G.Algebra.laws c.args.number _ _ s t left right c.args.old known c.in-Clean.is (λ e. c.if-grade-eq0.false (c.operate-grade.ensures ∙ e))
 
-pub returns-then-is-before : goal.returns-then-is-before
-returns-then-is-before g c s t left right known =
+pub returns-then-is_before : goal.returns-then-is_before
+returns-then-is_before g c s t left right known =
     ap (λ v. Differs (record { grade = v; pattern = c.args.number; left = c.args.left; right = c.args.right })) c.operate-grade.ensures
     ∙ graver g.G.Algebra.ops g.G.Algebra.laws c.args.number _ _ s t left right c.args.old known c.in-Differs.known c.in-Differs.is
-    (ap (λ v. before g.G.Algebra.ops.grave v c.in-Differs.known.grade) (sym c.operate-grade.ensures) ∙ ap (λ l. before l c.operate-grade.result c.in-Differs.known.grade) (sym c.grave-order.ensures) ∙ sym c.is-before.ensures ∙ c.if-is-before.true)
+    (ap (λ v. before g.G.Algebra.ops.grave v c.in-Differs.known.grade) (sym c.operate-grade.ensures) ∙ ap (λ l. before l c.operate-grade.result c.in-Differs.known.grade) (sym c.grave_order.ensures) ∙ sym c.is_before.ensures ∙ c.if-is_before.true)
 
-pub returns-else-is-before : goal.returns-else-is-before
-returns-else-is-before g c s t left right known =
+pub returns-else-is_before : goal.returns-else-is_before
+returns-else-is_before g c s t left right known =
     not_graver g.G.Algebra.ops g.G.Algebra.laws c.args.number _ _ s t left right c.args.old known c.in-Differs.known c.in-Differs.is
-    (ap (λ v. before g.G.Algebra.ops.grave v c.in-Differs.known.grade) (sym c.operate-grade.ensures) ∙ ap (λ l. before l c.operate-grade.result c.in-Differs.known.grade) (sym c.grave-order.ensures) ∙ sym c.is-before.ensures ∙ c.if-is-before.false)
+    (ap (λ v. before g.G.Algebra.ops.grave v c.in-Differs.known.grade) (sym c.operate-grade.ensures) ∙ ap (λ l. before l c.operate-grade.result c.in-Differs.known.grade) (sym c.grave_order.ensures) ∙ sym c.is_before.ensures ∙ c.if-is_before.false)

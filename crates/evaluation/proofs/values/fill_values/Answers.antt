@@ -10,8 +10,8 @@ pub loop-number-init : goal.loop-number-init
 unfolding line_signals Rattle.netlist.specs.Lines.signals_after
 loop-number-init g c = (refl, refl)
 
-pub line-value-requires : goal.line-value-requires
-line-value-requires g c =
+pub line_value-requires : goal.line_value-requires
+line_value-requires g c =
     record {
       accepted = line_accepted g.G.Algebra.ops c.args.pattern.width c.args.lines.now c.loop-number.number _ c.loop-number-test.true (sym c.loop-number.invariant.1 ∙ c.requires.accepted);
       within = let h = c.loop-number.auto in omega arith;
@@ -28,9 +28,9 @@ loop-number-preserved g c =
     let ss = line_signals o n (take i ls) in
     let long : length ss ≡ i = signals_length o n (take i ls) ∙ length-take-le i ls (omega arith) in
     let read = get_or_default ls i _ _ h in
-    let value = c.line-value.ensures ss long (valued p ss _ c.loop-number.values c.loop-number.invariant.0) in
+    let value = c.line_value.ensures ss long (valued p ss _ c.loop-number.values c.loop-number.invariant.0) in
     let accepted = line_accepted o n ls i _ h (sym c.loop-number.invariant.1 ∙ c.requires.accepted) in (
-      filled_more o n p ls i _ c.args.values.now c.loop-number.values c.line-value.result h (let r = c.requires.room in omega arith) read c.loop-number.invariant.0 value,
+      filled_more o n p ls i _ c.args.values.now c.loop-number.values c.line_value.result h (let r = c.requires.room in omega arith) read c.loop-number.invariant.0 value,
       c.loop-number.invariant.1 ∙ fault_passed o n ls i _ h read accepted,
     )
 

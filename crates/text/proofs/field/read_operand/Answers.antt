@@ -8,5 +8,5 @@ use Rattle.text.proofs.field.read_operand.Goals as goal
 pub returns-else-same : goal.returns-else-same
 returns-else-same c n h e =
     let w : c.guess6-n.result ≡ n = c.guess6-n.ensures.0 ∙ ap guessed6 e ∙ guessed_operand n h in
-    let b : c.args.s.now ≡ c.operand-bytes.result = e ∙ ap (λ m. operand_field (Some m)) (sym w) ∙ sym c.operand-bytes.ensures in
+    let b : c.args.s.now ≡ c.operand_bytes.result = e ∙ ap (λ m. operand_field (Some m)) (sym w) ∙ sym c.operand_bytes.ensures in
     both_ways c.same.result c.if-same.false (c.same.ensures.1 b)

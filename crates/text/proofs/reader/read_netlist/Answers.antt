@@ -10,22 +10,22 @@ use Rattle.text.proofs.Begun.{head_fits, line_fits, begins_none, begins_set, sta
 use Rattle.text.proofs.Unique.{reads}
 use Rattle.text.proofs.reader.read_netlist.Goals as goal
 
-pub returns-in-err-header : goal.returns-in-err-header
-returns-in-err-header c =
+pub returns-in_err-header : goal.returns-in_err-header
+returns-in_err-header c =
     let bytes = c.args.bytes.now in
-    let x = c.in-err-header.ensures in
-    let p = err_from_is_err_and c.from-residual.result c.from-residual.ensures.1 in
-    let h = refused_head bytes c.args.from c.args.lines.now c.from-residual.result _ _ p.1 p.2 x in
-    reads bytes c.args.from c.args.lines.now c.args.lines.now c.from-residual.result h
+    let x = c.in_err-header.ensures in
+    let p = err_from_is_err_and c.from_residual.result c.from_residual.ensures.1 in
+    let h = refused_head bytes c.args.from c.args.lines.now c.from_residual.result _ _ p.1 p.2 x in
+    reads bytes c.args.from c.args.lines.now c.args.lines.now c.from_residual.result h
 
 pub returns-then-header-lines : goal.returns-then-header-lines
 returns-then-header-lines c =
-    let q = c.in-ok-header.ensures in
+    let q = c.in_ok-header.ensures in
     let h : TooMany c.args.bytes.now c.args.from c.args.lines.now c.args.lines.now =
     record {
-      count = c.in-ok-header.header.lines;
-      inputs = c.in-ok-header.header.inputs;
-      values = c.in-ok-header.header.values;
+      count = c.in_ok-header.header.lines;
+      inputs = c.in_ok-header.header.inputs;
+      values = c.in_ok-header.header.values;
       head = q.0;
       allowed = q.1;
       long = c.if-header-lines.true;
@@ -33,14 +33,14 @@ returns-then-header-lines c =
     } in
     reads c.args.bytes.now c.args.from c.args.lines.now c.args.lines.now (Err TooManyLines) h
 
-pub overflow-add-at : goal.overflow-add-at
-overflow-add-at c =
-    let f = head_fits c.args.bytes.now c.args.from _ _ _ c.in-ok-header.ensures.0 in
+pub overflow_add-at : goal.overflow_add-at
+overflow_add-at c =
+    let f = head_fits c.args.bytes.now c.args.from _ _ _ c.in_ok-header.ensures.0 in
     omega arith
 
 pub loop-due-init : goal.loop-due-init
 loop-due-init c =
-    let h = c.in-ok-header.ensures in
+    let h = c.in_ok-header.ensures in
     (begins_none c.args.bytes.now c.args.from _ _ _ h.0 h.1, refl, head_fits c.args.bytes.now c.args.from _ _ _ h.0, refl, c.if-header-lines.false)
 
 pub loop-due-preserved : goal.loop-due-preserved
@@ -48,27 +48,27 @@ loop-due-preserved c =
     let bytes = c.args.bytes.now in
     let at = c.loop-due.at in
     let d = c.loop-due.due in
-    let l = c.in-ok-line.line in
+    let l = c.in_ok-line.line in
     let i = c.loop-due.invariant in
-    let q = MatchResult-at_ok (λ l. Readable l × (row_at bytes at ≡ line_row d l)) (FirstFailed (LineTest d (row_at bytes at))) l c.in-ok-line.ensures c.read-line.ensures in
+    let q = MatchResult-at_ok (λ l. Readable l × (row_at bytes at ≡ line_row d l)) (FirstFailed (LineTest d (row_at bytes at))) l c.in_ok-line.ensures c.read_line.ensures in
     let f = line_fits bytes at d l q.0 q.1 in
     let s = length-set c.loop-due.lines d l in
     (begins_set bytes c.args.from _ _ _ c.loop-due.lines d at l (omega arith) i.0 q.0 i.1 q.1, omega arith, f, rest_set c.args.lines.now c.loop-due.lines d l i.3, omega arith)
 
-pub returns-in-err-line : goal.returns-in-err-line
-returns-in-err-line c =
+pub returns-in_err-line : goal.returns-in_err-line
+returns-in_err-line c =
     let bytes = c.args.bytes.now in
     let at = c.loop-due.at in
     let d = c.loop-due.due in
     let i = c.loop-due.invariant in
-    let x = c.in-err-line.ensures in
-    let p = err_from_is_err_and c.from-residual-in-err-line.result c.from-residual-in-err-line.ensures.1 in
-    let q = MatchResult-at_err (λ l. Readable l × (row_at bytes at ≡ line_row d l)) (FirstFailed (LineTest d (row_at bytes at))) x.0 x.2 c.read-line.ensures in
+    let x = c.in_err-line.ensures in
+    let p = err_from_is_err_and c.from_residual-in_err-line.result c.from_residual-in_err-line.ensures.1 in
+    let q = MatchResult-at_err (λ l. Readable l × (row_at bytes at ≡ line_row d l)) (FirstFailed (LineTest d (row_at bytes at))) x.0 x.2 c.read_line.ensures in
     let h = refused_at bytes c.args.from c.args.lines.now c.loop-due.lines _ _ d x.0 p.1 (p.2 ∙ x.1)
     (record {
-      count = c.in-ok-header.header.lines;
-      inputs = c.in-ok-header.header.inputs;
-      values = c.in-ok-header.header.values;
+      count = c.in_ok-header.header.lines;
+      inputs = c.in_ok-header.header.inputs;
+      values = c.in_ok-header.header.values;
       lines = take d c.loop-due.lines;
       begins = i.0;
       turn = length-take-le d c.loop-due.lines (omega arith);
@@ -77,19 +77,19 @@ returns-in-err-line c =
       failed = subst (λ m. FirstFailed (LineTest d (row_at bytes m)) x.0) i.1 q;
       filled = filled c.args.lines.now c.loop-due.lines d (omega arith) c.loop-due.auto.lines i.3;
     }) in
-    reads bytes c.args.from c.args.lines.now c.loop-due.lines c.from-residual-in-err-line.result h
+    reads bytes c.args.from c.args.lines.now c.loop-due.lines c.from_residual-in_err-line.result h
 
 pub returns : goal.returns
 returns c =
     let i = c.loop-due.invariant in
     let d = c.loop-due.due in
-    let e : d ≡ c.in-ok-header.header.lines = omega arith in
+    let e : d ≡ c.in_ok-header.header.lines = omega arith in
     let k = length-take-le d c.loop-due.lines (omega arith) in
-    let h : Accepted c.args.bytes.now c.args.from c.args.lines.now c.loop-due.lines c.in-ok-header.header =
+    let h : Accepted c.args.bytes.now c.args.from c.args.lines.now c.loop-due.lines c.in_ok-header.header =
     record {
       lines = take d c.loop-due.lines;
       counted = k ∙ e;
       stands = stands c.args.bytes.now c.args.from _ _ _ (take d c.loop-due.lines) (k ∙ e) i.0;
       filled = filled c.args.lines.now c.loop-due.lines d (omega arith) c.loop-due.auto.lines i.3;
     } in
-    reads c.args.bytes.now c.args.from c.args.lines.now c.loop-due.lines (Ok c.in-ok-header.header) h
+    reads c.args.bytes.now c.args.from c.args.lines.now c.loop-due.lines (Ok c.in_ok-header.header) h

@@ -7,34 +7,34 @@ returns-then-not-same c =
     head_fails_word c.in-Some.row.now _ c.in-Some.ensures.0 c.in-Some.ensures.1
     (not_from_Decides c.same.result c.same.ensures c.if-not-same.true)
 
-pub returns-in-default-read-number : goal.returns-in-default-read-number
-returns-in-default-read-number c =
+pub returns-in_default-read_number : goal.returns-in_default-read_number
+returns-in_default-read_number c =
     head_fails_field c.in-Some.row.now _ c.in-Some.ensures.0 c.in-Some.ensures.1 (c.same.ensures.0 c.if-not-same.false)
-    (no_count c.in-Some.row.now c.in-default-read-number.ensures)
+    (no_count c.in-Some.row.now c.in_default-read_number.ensures)
 
-pub returns-in-default-read-operand : goal.returns-in-default-read-operand
-returns-in-default-read-operand c =
+pub returns-in_default-read_operand : goal.returns-in_default-read_operand
+returns-in_default-read_operand c =
     head_fails_field c.in-Some.row.now _ c.in-Some.ensures.0 c.in-Some.ensures.1 (c.same.ensures.0 c.if-not-same.false)
-    (no_inputs c.in-Some.row.now c.in-default-read-operand.ensures)
+    (no_inputs c.in-Some.row.now c.in_default-read_operand.ensures)
 
-pub returns-in-default-read-operand-2 : goal.returns-in-default-read-operand-2
-returns-in-default-read-operand-2 c =
+pub returns-in_default-read_operand-2 : goal.returns-in_default-read_operand-2
+returns-in_default-read_operand-2 c =
     head_fails_field c.in-Some.row.now _ c.in-Some.ensures.0 c.in-Some.ensures.1 (c.same.ensures.0 c.if-not-same.false)
-    (no_values c.in-Some.row.now c.in-default-read-operand-2.ensures)
+    (no_values c.in-Some.row.now c.in_default-read_operand-2.ensures)
 
 pub returns-then-not-allowed : goal.returns-then-not-allowed
 returns-then-not-allowed c =
     let w = c.same.ensures.0 c.if-not-same.false in
-    let n = c.in-Some-read-number.lines in
-    let i = c.in-Some-read-operand.inputs in
-    let v = c.in-Some-read-operand-2.values in
-    let h = is_head c.in-Some.row.now _ c.in-Some.ensures.0 c.in-Some.ensures.1 n i v w c.in-Some-read-number.ensures c.in-Some-read-operand.ensures c.in-Some-read-operand-2.ensures in
+    let n = c.in-Some-read_number.lines in
+    let i = c.in-Some-read_operand.inputs in
+    let v = c.in-Some-read_operand-2.values in
+    let h = is_head c.in-Some.row.now _ c.in-Some.ensures.0 c.in-Some.ensures.1 n i v w c.in-Some-read_number.ensures c.in-Some-read_operand.ensures c.in-Some-read_operand-2.ensures in
     head_fails_limits c.in-Some.row.now _ c.in-Some.ensures.0 c.in-Some.ensures.1 n i v w h
     (not_from_Decides c.allowed.result c.allowed.ensures c.if-not-allowed.true)
 
 pub returns : goal.returns
 returns c = (
-  is_head c.in-Some.row.now _ c.in-Some.ensures.0 c.in-Some.ensures.1 c.in-Some-read-number.lines c.in-Some-read-operand.inputs c.in-Some-read-operand-2.values
-      (c.same.ensures.0 c.if-not-same.false) c.in-Some-read-number.ensures c.in-Some-read-operand.ensures c.in-Some-read-operand-2.ensures,
+  is_head c.in-Some.row.now _ c.in-Some.ensures.0 c.in-Some.ensures.1 c.in-Some-read_number.lines c.in-Some-read_operand.inputs c.in-Some-read_operand-2.values
+      (c.same.ensures.0 c.if-not-same.false) c.in-Some-read_number.ensures c.in-Some-read_operand.ensures c.in-Some-read_operand-2.ensures,
   c.allowed.ensures.0 c.if-not-allowed.false,
 )

@@ -13,4 +13,4 @@ loop-input-init c =
 pub loop-input-preserved : goal.loop-input-preserved
 loop-input-preserved c =
     let f : ℕ → ℕ = λ i. 48 + bit c.args.width c.args.pattern i in
-    bits_more f c.loop-input.input c.args.at c.args.out.now c.loop-input.out c.bit-digit.result c.loop-input.invariant c.bit-digit.ensures (omega arith)
+    bits_more f c.loop-input.input c.args.at c.args.out.now c.loop-input.out c.bit_digit.result c.loop-input.invariant c.bit_digit.ensures (omega arith)

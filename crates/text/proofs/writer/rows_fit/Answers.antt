@@ -5,14 +5,14 @@ use Rattle.text.proofs.writer.rows_fit.Goals as goal
 
 pub returns-then-size-left : goal.returns-then-size-left
 returns-then-size-left c =
-    let s = size_more c.args.width c.args.findings.now c.loop-finding.finding-index _ _ c.loop-finding-test.true c.size-of-row-size.ensures.value in
+    let s = size_more c.args.width c.args.findings.now c.loop-finding.finding-index _ _ c.loop-finding-test.true c.size_of_row-size.ensures.value in
     let i = c.loop-finding.invariant in
     let l = c.if-size-left.true in
     ((λ e. absurd (false≢true e)), (λ h. absurd (omega arith)))
 
 pub loop-finding-preserved : goal.loop-finding-preserved
 loop-finding-preserved c =
-    let s = size_more c.args.width c.args.findings.now c.loop-finding.finding-index _ _ c.loop-finding-test.true c.size-of-row-size.ensures.value in
+    let s = size_more c.args.width c.args.findings.now c.loop-finding.finding-index _ _ c.loop-finding-test.true c.size_of_row-size.ensures.value in
     let i = c.loop-finding.invariant in
     let l = c.if-size-left.false in
     omega arith

@@ -9,27 +9,27 @@ use Rattle.text.proofs.writer.write_findings.Goals as goal
 pub returns-then-at-out : goal.returns-then-at-out
 returns-then-at-out g c = record { long = omega arith; kept = refl }
 
-pub returns-then-not-rows-fit : goal.returns-then-not-rows-fit
-returns-then-not-rows-fit g c =
-    let n = not_from_Decides c.rows-fit.result c.rows-fit.ensures c.if-not-rows-fit.true in
+pub returns-then-not-rows_fit : goal.returns-then-not-rows_fit
+returns-then-not-rows_fit g c =
+    let n = not_from_Decides c.rows_fit.result c.rows_fit.ensures c.if-not-rows_fit.true in
     let s = findings_sized g.G.Algebra.ops.letter c.args.width 0 c.args.findings.now in
     record { long = omega arith; kept = refl {a = c.args.out.now} }
 
 pub loop-number-init : goal.loop-number-init
 loop-number-init g c =
-    let f = c.rows-fit.ensures.0 c.if-not-rows-fit.false in
+    let f = c.rows_fit.ensures.0 c.if-not-rows_fit.false in
     (no_findings g.G.Algebra.ops.letter c.args.width c.args.at c.args.out.now (omega arith), omega arith)
 
-pub put-finding-end-requires : goal.put-finding-end-requires
-put-finding-end-requires g c =
+pub put_finding-end-requires : goal.put_finding-end-requires
+put_finding-end-requires g c =
     let s = size_more c.args.width c.args.findings.now c.loop-number.number Clean _ c.loop-number-test.true refl in
     let i = c.loop-number.invariant.1 in
     omega (arith, s, i)
 
 pub loop-number-preserved : goal.loop-number-preserved
 loop-number-preserved g c =
-    next_row g.G.Algebra.ops.letter c.args.width c.args.findings.now c.loop-number.number c.args.at c.loop-number.end c.put-finding-end.result
-    c.args.out.now c.loop-number.out c.put-finding-end.new.out c.loop-number-test.true c.loop-number.invariant.0 c.loop-number.invariant.1 c.put-finding-end.ensures
+    next_row g.G.Algebra.ops.letter c.args.width c.args.findings.now c.loop-number.number c.args.at c.loop-number.end c.put_finding-end.result
+    c.args.out.now c.loop-number.out c.put_finding-end.new.out c.loop-number-test.true c.loop-number.invariant.0 c.loop-number.invariant.1 c.put_finding-end.ensures
 
 pub returns : goal.returns
 returns g c =

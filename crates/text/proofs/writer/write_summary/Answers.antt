@@ -4,16 +4,16 @@ use Rattle.text.proofs.Writing.{written_more, written_as}
 use Rattle.text.proofs.Found.{summary_size, summary_is}
 use Rattle.text.proofs.writer.write_summary.Goals as goal
 
-pub returns-then-not-has-room : goal.returns-then-not-has-room
-returns-then-not-has-room c =
-    let n = not_from_Decides c.has-room.result c.has-room.ensures c.if-not-has-room.true in
+pub returns-then-not-has_room : goal.returns-then-not-has_room
+returns-then-not-has_room c =
+    let n = not_from_Decides c.has_room.result c.has_room.ensures c.if-not-has_room.true in
     let s = summary_size c.args.pairs c.args.word c.args.number in
     record { long = omega arith; kept = refl }
 
 pub returns : goal.returns
 returns c =
     written_as _ _ c.args.at c.args.out.now c.put.new.out c.put.result
-    (summary_is c.number-bytes.result c.word.result c.operand-bytes.result c.args.pairs c.args.word c.args.number c.number-bytes.ensures c.word.ensures c.operand-bytes.ensures)
+    (summary_is c.number_bytes.result c.word.result c.operand_bytes.result c.args.pairs c.args.word c.args.number c.number_bytes.ensures c.word.ensures c.operand_bytes.ensures)
     (written_more _ c.args.at _ _ _ c.put-spaced.ensures _ _ _
     (written_more _ _ _ _ _ c.put-worded.ensures _ _ _
     (written_more _ _ _ _ _ c.put-counted.ensures _ _ _
