@@ -16,12 +16,12 @@ use Rattle.records.proofs.Values.{within_grows}
 use Rattle.records.proofs.Walking.{leaf_result, recalled_result, negated_result, shape_out, walked_out_low, walked_out_high, walked_out_made, walked_made}
 use Rattle.diagram.proofs.walk.+walk.Goals as goal
 
-pub returns-then-is-constant-2 : goal.returns-then-is-constant-2
-returns-then-is-constant-2 g t c =
+pub returns-then-is_constant-2 : goal.returns-then-is_constant-2
+returns-then-is_constant-2 g t c =
     let laws = g.G.Algebra.laws in
     let s = view c.args.table.now in
-    let x = ltb-true c.args.x 16 (sym c.is-constant.ensures ∙ c.if-is-constant.true) in
-    let y = ltb-true c.args.y 16 (sym c.is-constant-then-is-constant.ensures ∙ c.if-is-constant-2.true) in
+    let x = ltb-true c.args.x 16 (sym c.is_constant.ensures ∙ c.if-is_constant.true) in
+    let y = ltb-true c.args.y 16 (sym c.is_constant-then-is_constant.ensures ∙ c.if-is_constant-2.true) in
     record {
       grows = grows_refl s;
       room = refl {a = room c.args.table.now};
@@ -29,16 +29,16 @@ returns-then-is-constant-2 g t c =
       meaning = λ sound pairs lx ly. leaf_result laws s (g.M.Memo.recalls c.args.memo.now) c.args.op c.args.x c.args.y c.leaf.result x y c.leaf.ensures sound pairs;
     }
 
-pub split-at-mut-own-requires : goal.split-at-mut-own-requires
-split-at-mut-own-requires g t c = some_row (well c.args.table.now.well) c.args.x c.args.y (length c.args.rows.now) c.requires.x c.requires.rows
+pub split_at_mut-own-requires : goal.split_at_mut-own-requires
+split_at_mut-own-requires g t c = some_row (well c.args.table.now.well) c.args.x c.args.y (length c.args.rows.now) c.requires.x c.requires.rows
 
 pub returns-then-settled : goal.returns-then-settled
 returns-then-settled g t c =
     let o = g.G.Algebra.ops in
     let laws = g.G.Algebra.laws in
     let s = view c.args.table.now in
-    let test = settled_test o c.args.codes c.reach-of.result c.requires.codes in
-    let settled = ap (settled_mask o) (sym c.reach-of.ensures) ∙ sym test ∙ sym c.settled.ensures ∙ c.if-settled.true in
+    let test = settled_test o c.args.codes c.reach_of.result c.requires.codes in
+    let settled = ap (settled_mask o) (sym c.reach_of.ensures) ∙ sym test ∙ sym c.settled.ensures ∙ c.if-settled.true in
     record {
       grows = grows_refl s;
       room = refl {a = room c.args.table.now};
@@ -58,11 +58,11 @@ returns-in-Some g t c =
       meaning = short_result g.G.Algebra.ops s (g.M.Memo.recalls c.args.memo.now) c.args.op c.args.x c.args.y c.in-Some.h short;
     }
 
-pub returns-then-is-from : goal.returns-then-is-from
-returns-then-is-from g t c =
+pub returns-then-is_from : goal.returns-then-is_from
+returns-then-is_from g t c =
     let o = g.G.Algebra.ops in
     let s = view c.args.table.now in
-    let r : From s c.min-input.result c.in-Some-get.h = when_true _ (Unit {0}) c.if-is-from.true c.is-from.ensures in
+    let r : From s c.min-input.result c.in-Some-get.h = when_true _ (Unit {0}) c.if-is_from.true c.is_from.ensures in
     record {
       grows = grows_refl s;
       room = refl {a = room c.args.table.now};
@@ -74,12 +74,12 @@ returns-then-is-from g t c =
 pub walk-requires : goal.walk-requires
 walk-requires g t c κs within =
     let cut = halved g.G.Algebra.laws (well c.args.table.now.well) c.args.x c.args.y c.cut.result c.requires.x c.requires.y c.cut.ensures in
-    let rest : length c.args.rows.now ≤ length c.split-at-mut-own.result.1.now + 1 = omega (arith, c.split-at-mut-own.ensures.back_len) in
-    let rows = low_rows _ _ _ _ _ _ _ _ (length c.split-at-mut-own.result.1.now) cut c.requires.rows rest in
+    let rest : length c.args.rows.now ≤ length c.split_at_mut-own.result.1.now + 1 = omega (arith, c.split_at_mut-own.ensures.back_len) in
+    let rows = low_rows _ _ _ _ _ _ _ _ (length c.split_at_mut-own.result.1.now) cut c.requires.rows rest in
     (search rules, (within.0, (within.1, (c.requires.codes, (cut.low.beyond.within, (cut.low_other.beyond.within, rows))))))
 
-pub returns-in-err-low : goal.returns-in-err-low
-returns-in-err-low g t c =
+pub returns-in_err-low : goal.returns-in_err-low
+returns-in_err-low g t c =
     let laws = g.G.Algebra.laws in
     let recalls = g.M.Memo.recalls in
     let s = view c.args.table.now in
@@ -87,26 +87,26 @@ returns-in-err-low g t c =
     let w = well c.args.table.now.well in
     let row = c.cut.result in
     let cut = halved laws {s = s} w c.args.x c.args.y row c.requires.x c.requires.y c.cut.ensures in
-    let err = c.from-residual.ensures.0 in
+    let err = c.from_residual.ensures.0 in
     record {
       grows = c.walk.ensures.grows;
       room = c.walk.ensures.room;
-      shape = shape_out s t1 c.args.x c.args.y c.from-residual.result err;
+      shape = shape_out s t1 c.args.x c.args.y c.from_residual.result err;
       meaning =
           walked_out_low laws s w (recalls c.args.memo.now) c.args.op c.args.x c.args.y row.input row.low row.high row.low_other row.high_other cut t1
-          (room c.args.table.now) (recalls c.walk.new.memo) c.from-residual.result err c.walk.ensures.grows c.in-err-low.ensures.meaning;
+          (room c.args.table.now) (recalls c.walk.new.memo) c.from_residual.result err c.walk.ensures.grows c.in_err-low.ensures.meaning;
     }
 
 pub walk-requires-2 : goal.walk-requires-2
 walk-requires-2 g t c κs within =
     let cut = halved g.G.Algebra.laws (well c.args.table.now.well) c.args.x c.args.y c.cut.result c.requires.x c.requires.y c.cut.ensures in
     let grows = c.walk.ensures.grows in
-    let rest : length c.args.rows.now ≤ length c.walk.new.rows + 1 = omega (arith, c.split-at-mut-own.ensures.back_len, c.walk.auto.rows) in
+    let rest : length c.args.rows.now ≤ length c.walk.new.rows + 1 = omega (arith, c.split_at_mut-own.ensures.back_len, c.walk.auto.rows) in
     let rows = high_rows _ _ _ _ _ _ _ _ (length c.walk.new.rows) cut c.requires.rows rest grows in
     (search rules, (within.0, (within.1, (c.requires.codes, (within_grows grows _ cut.high.beyond.within, (within_grows grows _ cut.high_other.beyond.within, rows))))))
 
-pub returns-in-err-high : goal.returns-in-err-high
-returns-in-err-high g t c =
+pub returns-in_err-high : goal.returns-in_err-high
+returns-in_err-high g t c =
     let laws = g.G.Algebra.laws in
     let recalls = g.M.Memo.recalls in
     let s = view c.args.table.now in
@@ -115,16 +115,16 @@ returns-in-err-high g t c =
     let w = well c.args.table.now.well in
     let row = c.cut.result in
     let cut = halved laws {s = s} w c.args.x c.args.y row c.requires.x c.requires.y c.cut.ensures in
-    let err = c.from-residual-in-err-high.ensures.0 in
+    let err = c.from_residual-in_err-high.ensures.0 in
     record {
       grows = grows_trans {s = s} {t = t1} {u = t2} c.walk.ensures.grows c.walk-2.ensures.grows;
       room = c.walk-2.ensures.room ∙ c.walk.ensures.room;
-      shape = shape_out s t2 c.args.x c.args.y c.from-residual-in-err-high.result err;
+      shape = shape_out s t2 c.args.x c.args.y c.from_residual-in_err-high.result err;
       meaning =
           walked_out_high laws s w (recalls c.args.memo.now) c.args.op c.args.x c.args.y row.input row.low row.high row.low_other row.high_other cut
-          t1 (well c.walk.new.table.well) c.walk.ensures.grows (recalls c.walk.new.memo) c.in-ok-low.low c.in-ok-low.ensures.meaning
-          t2 (room c.args.table.now) (room c.walk.new.table) (recalls c.walk-2.new.memo) c.from-residual-in-err-high.result err c.walk.ensures.room
-          c.walk-2.ensures.grows c.in-err-high.ensures.meaning;
+          t1 (well c.walk.new.table.well) c.walk.ensures.grows (recalls c.walk.new.memo) c.in_ok-low.low c.in_ok-low.ensures.meaning
+          t2 (room c.args.table.now) (room c.walk.new.table) (recalls c.walk-2.new.memo) c.from_residual-in_err-high.result err c.walk.ensures.room
+          c.walk-2.ensures.grows c.in_err-high.ensures.meaning;
     }
 
 pub make-requires : goal.make-requires
@@ -135,12 +135,12 @@ make-requires g t c =
     record {
       codes = c.requires.codes;
       inside = omega (arith, first.inputs, second.inputs, cut.inside);
-      low = low_beyond _ _ _ _ _ _ _ cut first second c.in-ok-low.low c.in-ok-low.ensures.shape;
-      high = high_beyond _ _ _ _ _ _ _ cut first second c.in-ok-high.high c.in-ok-high.ensures.shape;
+      low = low_beyond _ _ _ _ _ _ _ cut first second c.in_ok-low.low c.in_ok-low.ensures.shape;
+      high = high_beyond _ _ _ _ _ _ _ cut first second c.in_ok-high.high c.in_ok-high.ensures.shape;
     }
 
-pub returns-in-err-h : goal.returns-in-err-h
-returns-in-err-h g t c =
+pub returns-in_err-h : goal.returns-in_err-h
+returns-in_err-h g t c =
     let laws = g.G.Algebra.laws in
     let recalls = g.M.Memo.recalls in
     let s = view c.args.table.now in
@@ -150,18 +150,18 @@ returns-in-err-h g t c =
     let w = well c.args.table.now.well in
     let row = c.cut.result in
     let cut = halved laws {s = s} w c.args.x c.args.y row c.requires.x c.requires.y c.cut.ensures in
-    let err = c.from-residual-in-err-h.ensures.0 in
+    let err = c.from_residual-in_err-h.ensures.0 in
     let places = c.walk-2.ensures.room ∙ c.walk.ensures.room in
     record {
       grows = grows_trans {s = s} {t = t1} {u = t3} c.walk.ensures.grows (grows_trans {s = t1} {t = t2} {u = t3} c.walk-2.ensures.grows c.make.ensures.grows);
       room = c.make.ensures.room ∙ places;
-      shape = shape_out s t3 c.args.x c.args.y c.from-residual-in-err-h.result err;
+      shape = shape_out s t3 c.args.x c.args.y c.from_residual-in_err-h.result err;
       meaning =
           walked_out_made laws s w (recalls c.args.memo.now) c.args.op c.args.x c.args.y row.input row.low row.high row.low_other row.high_other cut
-          t1 (well c.walk.new.table.well) c.walk.ensures.grows (recalls c.walk.new.memo) c.in-ok-low.low c.in-ok-low.ensures.meaning
-          t2 (well c.walk-2.new.table.well) c.walk-2.ensures.grows (recalls c.walk-2.new.memo) c.in-ok-high.high c.in-ok-high.ensures.meaning
-          t3 (room c.args.table.now) (room c.walk-2.new.table) (recalls c.walk-2.new.memo) c.from-residual-in-err-h.result err places c.in-err-h.ensures.shape
-          c.in-err-h.ensures.meaning;
+          t1 (well c.walk.new.table.well) c.walk.ensures.grows (recalls c.walk.new.memo) c.in_ok-low.low c.in_ok-low.ensures.meaning
+          t2 (well c.walk-2.new.table.well) c.walk-2.ensures.grows (recalls c.walk-2.new.memo) c.in_ok-high.high c.in_ok-high.ensures.meaning
+          t3 (room c.args.table.now) (room c.walk-2.new.table) (recalls c.walk-2.new.memo) c.from_residual-in_err-h.result err places c.in_err-h.ensures.shape
+          c.in_err-h.ensures.meaning;
     }
 
 pub returns : goal.returns
@@ -178,10 +178,10 @@ returns g t c =
     record {
       grows = grows_trans {s = s} {t = t1} {u = t3} c.walk.ensures.grows (grows_trans {s = t1} {t = t2} {u = t3} c.walk-2.ensures.grows c.make.ensures.grows);
       room = c.make.ensures.room ∙ c.walk-2.ensures.room ∙ c.walk.ensures.room;
-      shape = moved_from t3 row.input (min (level s c.args.x) (level s c.args.y)) c.in-ok-h.h c.cut.ensures.input_is c.in-ok-h.ensures.shape;
+      shape = moved_from t3 row.input (min (level s c.args.x) (level s c.args.y)) c.in_ok-h.h c.cut.ensures.input_is c.in_ok-h.ensures.shape;
       meaning =
           walked_made laws s w (recalls c.args.memo.now) c.args.op c.args.x c.args.y row.input row.low row.high row.low_other row.high_other cut
-          t1 (well c.walk.new.table.well) c.walk.ensures.grows (recalls c.walk.new.memo) c.in-ok-low.low c.in-ok-low.ensures.meaning
-          t2 (well c.walk-2.new.table.well) c.walk-2.ensures.grows (recalls c.walk-2.new.memo) c.in-ok-high.high c.in-ok-high.ensures.meaning
-          t3 c.make.ensures.grows (recalls c.put.new.self) c.in-ok-h.h c.in-ok-h.ensures.meaning c.put.ensures;
+          t1 (well c.walk.new.table.well) c.walk.ensures.grows (recalls c.walk.new.memo) c.in_ok-low.low c.in_ok-low.ensures.meaning
+          t2 (well c.walk-2.new.table.well) c.walk-2.ensures.grows (recalls c.walk-2.new.memo) c.in_ok-high.high c.in_ok-high.ensures.meaning
+          t3 c.make.ensures.grows (recalls c.put.new.self) c.in_ok-h.h c.in_ok-h.ensures.meaning c.put.ensures;
     }

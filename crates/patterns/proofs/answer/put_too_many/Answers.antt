@@ -7,5 +7,5 @@ pub returns : goal.returns
 returns c =
     record {
       within = omega arith;
-      text = take_at c.copy-from-slice.new.self _ 46 (ap length c.copy-from-slice.ensures.after) ∙ c.copy-from-slice.ensures.after;
+      text = take_at c.copy_from_slice.new.self _ 46 (ap length c.copy_from_slice.ensures.after) ∙ c.copy_from_slice.ensures.after;
     }

@@ -12,8 +12,8 @@ pub loop-v-preserved : goal.loop-v-preserved
 loop-v-preserved g c =
     let o = g.G.Algebra.ops in
     let v = c.loop-v.v in (
-      mask_more (λ v. not (settled_code o v)) v c.loop-v.loose c.with-loose.result (not c.is-settled-code.result) c.loop-v.invariant.0 (ap not c.is-settled-code.ensures) c.with-loose.ensures,
-      mask_more (firm_code o) v c.loop-v.firm c.with-firm.result c.is-firm-code.result c.loop-v.invariant.1 c.is-firm-code.ensures c.with-firm.ensures,
+      mask_more (λ v. not (settled_code o v)) v c.loop-v.loose c.with-loose.result (not c.is_settled_code.result) c.loop-v.invariant.0 (ap not c.is_settled_code.ensures) c.with-loose.ensures,
+      mask_more (firm_code o) v c.loop-v.firm c.with-firm.result c.is_firm_code.result c.loop-v.invariant.1 c.is_firm_code.ensures c.with-firm.ensures,
     )
 
 pub returns : goal.returns

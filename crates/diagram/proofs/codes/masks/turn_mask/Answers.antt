@@ -14,7 +14,7 @@ with-turned-requires g c = omega (arith, c.turn.ensures, g.G.Algebra.laws.turn_b
 pub loop-v-preserved : goal.loop-v-preserved
 loop-v-preserved g c =
     turn_more g.G.Algebra.ops c.args.mask c.loop-v.v c.turn.result c.loop-v.turned c.with-turned.result c.loop-v.invariant c.turn.ensures
-    (c.with-turned.ensures ∙ ap (λ b. cond b (bit_or c.loop-v.turned (2 ^ c.turn.result)) c.loop-v.turned) c.is-up.ensures)
+    (c.with-turned.ensures ∙ ap (λ b. cond b (bit_or c.loop-v.turned (2 ^ c.turn.result)) c.loop-v.turned) c.is_up.ensures)
 
 pub returns : goal.returns
 returns g c =

@@ -8,8 +8,8 @@ loop-self-preserved c =
     let old = in_use c.loop-self.self in
     let less : c.args.n ≤ length old - 1 = omega arith in
     let long = length-take-le (length old - 1) old (omega arith) in
-    let list = c.drop-last.ensures.list in
-    (omega (arith, ap length list), ap (take c.args.n) list ∙ take-take _ _ old less ∙ c.loop-self.invariant.1, c.drop-last.ensures.room ∙ c.loop-self.invariant.2)
+    let list = c.drop_last.ensures.list in
+    (omega (arith, ap length list), ap (take c.args.n) list ∙ take-take _ _ old less ∙ c.loop-self.invariant.1, c.drop_last.ensures.room ∙ c.loop-self.invariant.2)
 
 pub returns : goal.returns
 returns c =

@@ -8,21 +8,21 @@ use Rattle.records.proofs.Shapes.{well, place_below}
 use Rattle.records.proofs.Matter.{more_same, collected_none, covers_constant, covers_marked, covers_rest, own_more, covers_place, collected_step, done_more, done_set}
 use Rattle.diagram.proofs.table.Table.+collect.Goals as goal
 
-pub returns-then-is-constant : goal.returns-then-is-constant
-returns-then-is-constant t c =
+pub returns-then-is_constant : goal.returns-then-is_constant
+returns-then-is_constant t c =
     let s = view c.args.self.now in
     let h = c.args.h in
     record {
-      collected = collected_none s h c.args.mask (covers_constant s h c.args.mask (ltb-true h 16 (sym c.is-constant.ensures ∙ c.if-is-constant.true)));
+      collected = collected_none s h c.args.mask (covers_constant s h c.args.mask (ltb-true h 16 (sym c.is_constant.ensures ∙ c.if-is_constant.true)));
       done = c.requires.done;
     }
 
-pub row-of-row-requires : goal.row-of-row-requires
-row-of-row-requires t c =
+pub row_of-row-requires : goal.row_of-row-requires
+row_of-row-requires t c =
     let h = c.args.h in
-    let large = ltb-false h 16 (sym c.is-constant.ensures ∙ c.if-is-constant.false) in
+    let large = ltb-false h 16 (sym c.is_constant.ensures ∙ c.if-is_constant.false) in
     let used = place_below h (view c.args.self.now).used large c.requires.within in
-    record { place = omega arith; input = c.record-of-record.ensures.placed.within; enough = c.requires.enough }
+    record { place = omega arith; input = c.record_of-record.ensures.placed.within; enough = c.requires.enough }
 
 pub returns-then-rows-row : goal.returns-then-rows-row
 returns-then-rows-row t c =
@@ -30,38 +30,38 @@ returns-then-rows-row t c =
     let h = c.args.h in
     let m = c.args.mask in
     let rows = c.args.rows.now in
-    let k = c.row-of-row.result in
-    let large = ltb-false h 16 (sym c.is-constant.ensures ∙ c.if-is-constant.false) in
-    let less : k < length rows = c.row-of-row.ensures in
-    let bare = c.if-rows-row.true ∙ c.handle-of-bare.ensures ∙ ap handle c.place-of-place.ensures in
+    let k = c.row_of-row.result in
+    let large = ltb-false h 16 (sym c.is_constant.ensures ∙ c.if-is_constant.false) in
+    let less : k < length rows = c.row_of-row.ensures in
+    let bare = c.if-rows-row.true ∙ c.handle_of-bare.ensures ∙ ap handle c.place_of-place.ensures in
     record {
       collected = collected_none s h m (covers_marked (well c.args.self.now.well) h m large c.requires.within (subst (Covers s m) bare (c.requires.done k less)));
       done = c.requires.done;
     }
 
-pub has-rest-requires : goal.has-rest-requires
-has-rest-requires t c =
+pub has_rest-requires : goal.has_rest-requires
+has_rest-requires t c =
     let few = (well c.args.self.now.well).few in
-    let inside = c.record-of-record.ensures.placed.within in
+    let inside = c.record_of-record.ensures.placed.within in
     record { inside = omega arith; few = omega arith }
 
-pub returns-then-has-rest : goal.returns-then-has-rest
-returns-then-has-rest t c =
+pub returns-then-has_rest : goal.returns-then-has_rest
+returns-then-has_rest t c =
     let s = view c.args.self.now in
     let h = c.args.h in
     let m = c.args.mask in
-    let large = ltb-false h 16 (sym c.is-constant.ensures ∙ c.if-is-constant.false) in
+    let large = ltb-false h 16 (sym c.is_constant.ensures ∙ c.if-is_constant.false) in
     record {
       collected = collected_none s h m
-          (covers_rest (well c.args.self.now.well) h m 0 0 0 c.record-of-record.result large c.requires.within c.record-of-record.ensures.read
-          (λ i l d. c.has-rest.ensures c.if-has-rest.true i l (omega arith)));
+          (covers_rest (well c.args.self.now.well) h m 0 0 0 c.record_of-record.result large c.requires.within c.record_of-record.ensures.read
+          (λ i l d. c.has_rest.ensures c.if-has_rest.true i l (omega arith)));
       done = c.requires.done;
     }
 
-pub overflow-shl-own : goal.overflow-shl-own
-overflow-shl-own t c =
+pub overflow_shl-own : goal.overflow_shl-own
+overflow_shl-own t c =
     let few = (well c.args.self.now.well).few in
-    let inside = c.record-of-record.ensures.placed.within in
+    let inside = c.record_of-record.ensures.placed.within in
     omega arith
 
 pub collect-low-requires : goal.collect-low-requires
@@ -70,22 +70,22 @@ collect-low-requires t c =
     let w = well c.args.self.now.well in
     let h = c.args.h in
     let m = c.args.mask in
-    let r = c.record-of-record.result in
-    let large = ltb-false h 16 (sym c.is-constant.ensures ∙ c.if-is-constant.false) in
+    let r = c.record_of-record.result in
+    let large = ltb-false h 16 (sym c.is_constant.ensures ∙ c.if-is_constant.false) in
     let u = c.requires.within in
-    let before = c.record-of-record.ensures.placed.low_before in
+    let before = c.record_of-record.ensures.placed.low_before in
     let less : r.low < h = omega arith in
-    let small : r.input < 64 = omega (arith, w.few, c.record-of-record.ensures.placed.within) in
+    let small : r.input < 64 = omega (arith, w.few, c.record_of-record.ensures.placed.within) in
     let own = bit_or m ((1 * 2 ^ r.input) % 2 ^ 64) in
-    (search rules, (omega arith, (c.requires.enough, done_more s m own c.args.rows.now (own_more w h m own 0 0 r large u c.record-of-record.ensures.read small refl) c.requires.done)))
+    (search rules, (omega arith, (c.requires.enough, done_more s m own c.args.rows.now (own_more w h m own 0 0 r large u c.record_of-record.ensures.read small refl) c.requires.done)))
 
 pub collect-both-requires : goal.collect-both-requires
 collect-both-requires t c =
     let h = c.args.h in
-    let large = ltb-false h 16 (sym c.is-constant.ensures ∙ c.if-is-constant.false) in
+    let large = ltb-false h 16 (sym c.is_constant.ensures ∙ c.if-is_constant.false) in
     let u = c.requires.within in
-    let before = c.record-of-record.ensures.placed.high_before in
-    let less : c.record-of-record.result.high < h = omega arith in
+    let before = c.record_of-record.ensures.placed.high_before in
+    let less : c.record_of-record.result.high < h = omega arith in
     (search rules, (omega arith, (omega (arith, c.requires.enough, c.collect-low.auto.rows), c.collect-low.ensures.done)))
 
 pub returns : goal.returns
@@ -94,18 +94,18 @@ returns t c =
     let w = well c.args.self.now.well in
     let h = c.args.h in
     let m = c.args.mask in
-    let r = c.record-of-record.result in
+    let r = c.record_of-record.result in
     let low = c.collect-low.result in
     let both = c.collect-both.result in
     let rows = c.collect-both.new.rows in
-    let k = c.row-of-row.result in
-    let large = ltb-false h 16 (sym c.is-constant.ensures ∙ c.if-is-constant.false) in
+    let k = c.row_of-row.result in
+    let large = ltb-false h 16 (sym c.is_constant.ensures ∙ c.if-is_constant.false) in
     let u = c.requires.within in
-    let small : r.input < 64 = omega (arith, w.few, c.record-of-record.ensures.placed.within) in
+    let small : r.input < 64 = omega (arith, w.few, c.record_of-record.ensures.placed.within) in
     let own = bit_or m ((1 * 2 ^ r.input) % 2 ^ 64) in
-    let read = c.record-of-record.ensures.read in
-    let less : k < length rows = omega (arith, c.row-of-row.ensures, c.collect-low.auto.rows, c.collect-both.auto.rows) in
-    let bare = c.handle-of-bare.ensures ∙ ap handle c.place-of-place.ensures in
+    let read = c.record_of-record.ensures.read in
+    let less : k < length rows = omega (arith, c.row_of-row.ensures, c.collect-low.auto.rows, c.collect-both.auto.rows) in
+    let bare = c.handle_of-bare.ensures ∙ ap handle c.place_of-place.ensures in
     record {
       collected = collected_step w h m own low both r large u read small refl c.collect-low.ensures.collected c.collect-both.ensures.collected;
       done = done_set s both rows k _ less c.collect-both.ensures.done

@@ -7,68 +7,68 @@ use Rattle.records.proofs.Shapes.{well}
 use Rattle.records.proofs.Finds.{constant_first, under_code, low_small, low_leads, high_small, high_leads}
 use Rattle.diagram.proofs.table.Table.+first_in_use.Goals as goal
 
-pub returns-then-is-constant : goal.returns-then-is-constant
-returns-then-is-constant g t c =
+pub returns-then-is_constant : goal.returns-then-is_constant
+returns-then-is_constant g t c =
     record {
       small = pow_pos _;
-      first = λ sound lawful occurs. constant_first g.G.Algebra.ops (view c.args.self.now) c.args.h c.args.wanted (ltb-true c.args.h 16 (sym c.is-constant.ensures ∙ c.if-is-constant.true)) occurs;
+      first = λ sound lawful occurs. constant_first g.G.Algebra.ops (view c.args.self.now) c.args.h c.args.wanted (ltb-true c.args.h 16 (sym c.is_constant.ensures ∙ c.if-is_constant.true)) occurs;
     }
 
-pub is-up-requires : goal.is-up-requires
-is-up-requires g t c =
+pub is_up-requires : goal.is_up-requires
+is_up-requires g t c =
     let laws = g.G.Algebra.laws in
-    omega (arith, under_code laws c.args.h c.args.wanted c.under-mark-below.result c.under-mark-below.ensures c.requires.code, laws.sixteen_at_most)
+    omega (arith, under_code laws c.args.h c.args.wanted c.under_mark-below.result c.under_mark-below.ensures c.requires.code, laws.sixteen_at_most)
 
-pub first-in-use-requires : goal.first-in-use-requires
-first-in-use-requires g t c κs within =
+pub first_in_use-requires : goal.first_in_use-requires
+first_in_use-requires g t c κs within =
     let h = c.args.h in
-    let large = ltb-false h 16 (sym c.is-constant.ensures ∙ c.if-is-constant.false) in
+    let large = ltb-false h 16 (sym c.is_constant.ensures ∙ c.if-is_constant.false) in
     let u = c.requires.within in
-    let before = c.record-of-record.ensures.placed.low_before in
-    let less : c.record-of-record.result.low < h = omega arith in
-    let code = under_code g.G.Algebra.laws h c.args.wanted c.under-mark-below.result c.under-mark-below.ensures c.requires.code in
+    let before = c.record_of-record.ensures.placed.low_before in
+    let less : c.record_of-record.result.low < h = omega arith in
+    let code = under_code g.G.Algebra.laws h c.args.wanted c.under_mark-below.result c.under_mark-below.ensures c.requires.code in
     (search rules, (within, (omega arith, code)))
 
-pub returns-then-is-up : goal.returns-then-is-up
-returns-then-is-up g t c =
+pub returns-then-is_up : goal.returns-then-is_up
+returns-then-is_up g t c =
     let laws = g.G.Algebra.laws in
     let w = well c.args.self.now.well in
     let h = c.args.h in
     let v = c.args.wanted in
-    let u = c.under-mark-below.result in
-    let m = c.reach-of.result in
-    let r = c.record-of-record.result in
-    let x = c.first-in-use.result in
-    let large = ltb-false h 16 (sym c.is-constant.ensures ∙ c.if-is-constant.false) in
-    let read = c.record-of-record.ensures.read in
-    let small = c.first-in-use.ensures.small in
+    let u = c.under_mark-below.result in
+    let m = c.reach_of.result in
+    let r = c.record_of-record.result in
+    let x = c.first_in_use.result in
+    let large = ltb-false h 16 (sym c.is_constant.ensures ∙ c.if-is_constant.false) in
+    let read = c.record_of-record.ensures.read in
+    let small = c.first_in_use.ensures.small in
     record {
-      small = low_small laws w h v u m r large c.requires.within read c.under-mark-below.ensures c.reach-of.ensures x c.record-of-record.ensures.placed small;
-      first = low_leads laws w h v u m r large c.requires.within read c.under-mark-below.ensures c.reach-of.ensures x (sym c.is-up.ensures ∙ c.if-is-up.true) small c.first-in-use.ensures.first;
+      small = low_small laws w h v u m r large c.requires.within read c.under_mark-below.ensures c.reach_of.ensures x c.record_of-record.ensures.placed small;
+      first = low_leads laws w h v u m r large c.requires.within read c.under_mark-below.ensures c.reach_of.ensures x (sym c.is_up.ensures ∙ c.if-is_up.true) small c.first_in_use.ensures.first;
     }
 
-pub first-in-use-default-requires : goal.first-in-use-default-requires
-first-in-use-default-requires g t c κs within =
+pub first_in_use-default-requires : goal.first_in_use-default-requires
+first_in_use-default-requires g t c κs within =
     let h = c.args.h in
-    let large = ltb-false h 16 (sym c.is-constant.ensures ∙ c.if-is-constant.false) in
+    let large = ltb-false h 16 (sym c.is_constant.ensures ∙ c.if-is_constant.false) in
     let u = c.requires.within in
-    let before = c.record-of-record.ensures.placed.high_before in
-    let less : c.record-of-record.result.high < h = omega arith in
-    let code = under_code g.G.Algebra.laws h c.args.wanted c.under-mark-below.result c.under-mark-below.ensures c.requires.code in
+    let before = c.record_of-record.ensures.placed.high_before in
+    let less : c.record_of-record.result.high < h = omega arith in
+    let code = under_code g.G.Algebra.laws h c.args.wanted c.under_mark-below.result c.under_mark-below.ensures c.requires.code in
     (search rules, (within, (omega arith, code)))
 
-pub overflow-add-result : goal.overflow-add-result
-overflow-add-result g t c =
+pub overflow_add-result : goal.overflow_add-result
+overflow_add-result g t c =
     let laws = g.G.Algebra.laws in
     let w = well c.args.self.now.well in
     let n = c.args.self.now.inputs in
     let h = c.args.h in
     let v = c.args.wanted in
-    let u = c.under-mark-below.result in
-    let m = c.reach-of.result in
-    let r = c.record-of-record.result in
-    let large = ltb-false h 16 (sym c.is-constant.ensures ∙ c.if-is-constant.false) in
-    let sum = high_small laws w h v u m r large c.requires.within c.record-of-record.ensures.read c.under-mark-below.ensures c.reach-of.ensures c.first-in-use-default.result c.pattern-of.result c.record-of-record.ensures.placed c.first-in-use-default.ensures.small c.pattern-of.ensures in
+    let u = c.under_mark-below.result in
+    let m = c.reach_of.result in
+    let r = c.record_of-record.result in
+    let large = ltb-false h 16 (sym c.is_constant.ensures ∙ c.if-is_constant.false) in
+    let sum = high_small laws w h v u m r large c.requires.within c.record_of-record.ensures.read c.under_mark-below.ensures c.reach_of.ensures c.first_in_use-default.result c.pattern_of.result c.record_of-record.ensures.placed c.first_in_use-default.ensures.small c.pattern_of.ensures in
     let k : n - level (view c.args.self.now) h ≤ 60 = omega (arith, w.few) in
     let most : 2 ^ (n - level (view c.args.self.now) h) ≤ 2 ^ 60 = pow_mono k in
     omega arith
@@ -79,15 +79,15 @@ returns g t c =
     let w = well c.args.self.now.well in
     let h = c.args.h in
     let v = c.args.wanted in
-    let u = c.under-mark-below.result in
-    let m = c.reach-of.result in
-    let r = c.record-of-record.result in
-    let x = c.first-in-use-default.result in
-    let y = c.pattern-of.result in
-    let large = ltb-false h 16 (sym c.is-constant.ensures ∙ c.if-is-constant.false) in
-    let read = c.record-of-record.ensures.read in
-    let small = c.first-in-use-default.ensures.small in
+    let u = c.under_mark-below.result in
+    let m = c.reach_of.result in
+    let r = c.record_of-record.result in
+    let x = c.first_in_use-default.result in
+    let y = c.pattern_of.result in
+    let large = ltb-false h 16 (sym c.is_constant.ensures ∙ c.if-is_constant.false) in
+    let read = c.record_of-record.ensures.read in
+    let small = c.first_in_use-default.ensures.small in
     record {
-      small = high_small laws w h v u m r large c.requires.within read c.under-mark-below.ensures c.reach-of.ensures x y c.record-of-record.ensures.placed small c.pattern-of.ensures;
-      first = high_leads laws w h v u m r large c.requires.within read c.under-mark-below.ensures c.reach-of.ensures x y (sym c.is-up.ensures ∙ c.if-is-up.false) small c.pattern-of.ensures c.first-in-use-default.ensures.first;
+      small = high_small laws w h v u m r large c.requires.within read c.under_mark-below.ensures c.reach_of.ensures x y c.record_of-record.ensures.placed small c.pattern_of.ensures;
+      first = high_leads laws w h v u m r large c.requires.within read c.under_mark-below.ensures c.reach_of.ensures x y (sym c.is_up.ensures ∙ c.if-is_up.false) small c.pattern_of.ensures c.first_in_use-default.ensures.first;
     }

@@ -1,4 +1,4 @@
 use Rattle.diagram.proofs.table.Table.+value_in_use.Given as goal
 
-abbrev pub decreases-value-in-use : goal.decreases-value-in-use
-decreases-value-in-use g l = l.h
+abbrev pub decreases-value_in_use : goal.decreases-value_in_use
+decreases-value_in_use g l = l.h

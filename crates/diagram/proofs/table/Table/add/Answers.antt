@@ -8,8 +8,8 @@ use Rattle.diagram.proofs.table.Table.add.Goals as goal
 step : (c : goal.After-add) → Adds (view c.args.self.now) (room c.args.self.now) c.args.r c.add.result (store c.args.self.now.inputs (in_use c.add.new.self))
 step c = adds c.args.self.now.inputs _ _ _ c.args.r c.add.result c.add.ensures.place
 
-pub invariant-of-self : goal.invariant-of-self
-invariant-of-self c = (∣ well_adds _ _ _ c.args.r c.add.result (well c.args.self.now.well) c.requires (step c) ∣₁, tt)
+pub invariant_of-self : goal.invariant_of-self
+invariant_of-self c = record { well = ∣ well_adds _ _ _ c.args.r c.add.result (well c.args.self.now.well) c.requires (step c) ∣₁ }
 
 pub returns : goal.returns
 returns c =

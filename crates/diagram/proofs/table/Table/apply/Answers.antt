@@ -12,11 +12,11 @@ returns-in-Err g c =
     let s = view c.args.self.now in
     let t = view c.walk.new.table in
     let walked = c.in-Err.ensures in
-    let back = subst (λ n. Back t n (view c.cut-back.new.self)) c.used-used.ensures c.cut-back.ensures.back in
+    let back = subst (λ n. Back t n (view c.cut_back.new.self)) c.used-used.ensures c.cut_back.ensures.back in
     record {
-      shape = inr (record { passed = refl; full = refl; table = back_again walked.grows back; memo = c.cut-back.ensures.memo });
+      shape = inr (record { passed = refl; full = refl; table = back_again walked.grows back; memo = c.cut_back.ensures.memo });
       meaning = λ sound pairs lx ly.
           overfull g.G.Algebra.laws (well c.args.self.now.well) (well c.walk.new.table.well) walked.grows (room c.args.self.now)
           (combined o s c.args.op c.args.x c.args.y) (walked.meaning sound pairs lx ly);
-      room = c.cut-back.ensures.room ∙ walked.room;
+      room = c.cut_back.ensures.room ∙ walked.room;
     }

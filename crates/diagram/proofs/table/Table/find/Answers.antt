@@ -12,16 +12,16 @@ use Rattle.records.proofs.Finds.{reach_lacks, reach_has}
 use Rattle.records.proofs.Lookups.{passed}
 use Rattle.diagram.proofs.table.Table.find.Goals as goal
 
-pub returns-then-not-is-up : goal.returns-then-not-is-up
-returns-then-not-is-up g c =
+pub returns-then-not-is_up : goal.returns-then-not-is_up
+returns-then-not-is_up g c =
     let o = g.G.Algebra.ops in
     let s = view c.args.self.now in
     let h = c.args.h in
     let v = c.args.wanted in
-    let l : lawful o s h ≡ true = sym c.is-lawful.ensures ∙ c.if-not-is-lawful.false in
+    let l : lawful o s h ≡ true = sym c.is_lawful.ensures ∙ c.if-not-is_lawful.false in
     let code : ltb v o.count ≡ true = lt-ltb v o.count (omega arith) in
     let passes : find_refusal o s h v ≡ None = passed (lawful o s h) NoSuchHandle (test (ltb v o.count) NoSuchCode None) l ∙ passed (ltb v o.count) NoSuchCode None code in
-    let down : up (reach_of o s h) v ≡ false = ap (λ m. up m v) (sym c.reach-of.ensures) ∙ sym c.is-up.ensures ∙ c.if-not-is-up.true in
+    let down : up (reach_of o s h) v ≡ false = ap (λ m. up m v) (sym c.reach_of.ensures) ∙ sym c.is_up.ensures ∙ c.if-not-is_up.true in
     record {
       refusal = sym passes;
       shape = down;
@@ -35,16 +35,16 @@ returns g c =
     let s = view c.args.self.now in
     let h = c.args.h in
     let v = c.args.wanted in
-    let l : lawful o s h ≡ true = sym c.is-lawful.ensures ∙ c.if-not-is-lawful.false in
+    let l : lawful o s h ≡ true = sym c.is_lawful.ensures ∙ c.if-not-is_lawful.false in
     let code : ltb v o.count ≡ true = lt-ltb v o.count (omega arith) in
     let passes : find_refusal o s h v ≡ None = passed (lawful o s h) NoSuchHandle (test (ltb v o.count) NoSuchCode None) l ∙ passed (ltb v o.count) NoSuchCode None code in
-    let set : up (reach_of o s h) v ≡ true = ap (λ m. up m v) (sym c.reach-of.ensures) ∙ sym c.is-up.ensures ∙ c.if-not-is-up.false in
+    let set : up (reach_of o s h) v ≡ true = ap (λ m. up m v) (sym c.reach_of.ensures) ∙ sym c.is_up.ensures ∙ c.if-not-is_up.false in
     let k : s.inputs - level s h ≤ s.inputs = omega arith in
     record {
       refusal = sym passes;
-      shape = (set, omega (arith, pow_mono k, c.first-in-use.ensures.small));
+      shape = (set, omega (arith, pow_mono k, c.first_in_use.ensures.small));
       meaning = λ sound.
           sym
           (ap (λ k. unless_refused k (first s.inputs (value o s h) v)) passes
-          ∙ ap Ok (c.first-in-use.ensures.first sound l (reach_has g.G.Algebra.laws (well c.args.self.now.well) sound h v l set)));
+          ∙ ap Ok (c.first_in_use.ensures.first sound l (reach_has g.G.Algebra.laws (well c.args.self.now.well) sound h v l set)));
     }

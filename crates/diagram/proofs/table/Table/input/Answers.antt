@@ -6,12 +6,12 @@ use Rattle.diagram.proofs.table.Table.input.Goals as goal
 
 pub returns : goal.returns
 returns g c =
-    let e = c.input-step.ensures in
-    let fits : (view c.input-step.new.self).used ≤ room c.args.self.now = subst (λ k. (view c.input-step.new.self).used ≤ k) e.room e.fits in
+    let e = c.input_step.ensures in
+    let fits : (view c.input_step.new.self).used ≤ room c.args.self.now = subst (λ k. (view c.input_step.new.self).used ≤ k) e.room e.fits in
     record {
       shape = e.shape;
       meaning = e.meaning;
       room = e.room;
       fits = e.fits;
-      kept = λ run. kept_input g.G.Algebra.laws (well c.args.self.now.well) (well c.input-step.new.self.well) fits _ _ run _ c.input-step.result e.shape c.args.input e.meaning;
+      kept = λ run. kept_input g.G.Algebra.laws (well c.args.self.now.well) (well c.input_step.new.self.well) fits _ _ run _ c.input_step.result e.shape c.args.input e.meaning;
     }

@@ -30,12 +30,12 @@ returns-in-Err g c =
     let w = well c.args.self.now.well in
     let inside : c.args.input < s.inputs = omega (arith, c.inputs.ensures) in
     let made = c.in-Err.ensures in
-    let back = subst (λ n. Back (view c.make.new.self) n (view c.cut-back.new.self)) c.used-used.ensures c.cut-back.ensures.back in
+    let back = subst (λ n. Back (view c.make.new.self) n (view c.cut_back.new.self)) c.used-used.ensures c.cut_back.ensures.back in
     record {
-      shape = inr (record { passed = passes _ _ _ (lt-ltb c.args.input s.inputs inside); full = refl; table = back_again made.grows back; memo = c.cut-back.ensures.memo });
+      shape = inr (record { passed = passes _ _ _ (lt-ltb c.args.input s.inputs inside); full = refl; table = back_again made.grows back; memo = c.cut_back.ensures.memo });
       meaning = λ sound pairs.
           overfull laws w w (grows_refl s) (room c.args.self.now) (input s.inputs c.args.input)
           (input_out (room c.args.self.now) s c.args.input sound (made.meaning sound (bit_lawful laws s 0 (omega arith)) (bit_lawful laws s 1 (omega arith))));
-      room = c.cut-back.ensures.room ∙ made.room;
-      fits = table_fits c.cut-back.new.self;
+      room = c.cut_back.ensures.room ∙ made.room;
+      fits = table_fits c.cut_back.new.self;
     }

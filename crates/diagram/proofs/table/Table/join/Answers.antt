@@ -6,12 +6,12 @@ use Rattle.diagram.proofs.table.Table.join.Goals as goal
 
 pub returns : goal.returns
 returns g c =
-    let e = c.join-step.ensures in
-    let fits : (view c.join-step.new.self).used ≤ room c.args.self.now = subst (λ k. (view c.join-step.new.self).used ≤ k) e.room e.fits in
+    let e = c.join_step.ensures in
+    let fits : (view c.join_step.new.self).used ≤ room c.args.self.now = subst (λ k. (view c.join_step.new.self).used ≤ k) e.room e.fits in
     record {
       shape = e.shape;
       meaning = e.meaning;
       room = e.room;
       fits = e.fits;
-      kept = λ run. kept_join g.G.Algebra.laws (well c.args.self.now.well) (well c.join-step.new.self.well) fits _ _ run _ c.join-step.result e.shape c.args.op c.args.x c.args.y e.meaning;
+      kept = λ run. kept_join g.G.Algebra.laws (well c.args.self.now.well) (well c.join_step.new.self.well) fits _ _ run _ c.join_step.result e.shape c.args.op c.args.x c.args.y e.meaning;
     }

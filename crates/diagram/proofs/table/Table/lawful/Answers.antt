@@ -10,7 +10,7 @@ returns g c =
     let o = g.G.Algebra.ops in
     let s = view c.args.self.now in
     let h = c.args.h in
-    let large = ltb-false h 16 (sym c.is-constant.ensures ∙ c.if-is-constant.false) in
-    let within : place h < s.used = omega (arith, c.place-of-p.ensures, c.used.ensures) in
-    told_lawful o s h c.may-mark.result large within (sym c.is-marked.ensures ∙ c.if-not-is-marked.false)
-    (told_may_mark o c.args.codes s h c.place-of-p.result c.record-at.result c.may-mark.result c.requires c.place-of-p.ensures c.record-at.ensures c.may-mark.ensures)
+    let large = ltb-false h 16 (sym c.is_constant.ensures ∙ c.if-is_constant.false) in
+    let within : place h < s.used = omega (arith, c.place_of-p.ensures, c.used.ensures) in
+    told_lawful o s h c.may_mark.result large within (sym c.is_marked.ensures ∙ c.if-not-is_marked.false)
+    (told_may_mark o c.args.codes s h c.place_of-p.result c.record_at.result c.may_mark.result c.requires c.place_of-p.ensures c.record_at.ensures c.may_mark.ensures)

@@ -36,7 +36,7 @@ returns-in-Some g c =
     let p = c.in-Some.p in
     let r = c.kept-kept.result.record in
     let fits = beside c.requires.inside c.requires.low c.requires.high c.if-low-high.false in
-    let h = c.handle-with.ensures ∙ ap (λ b. cond b (handle p + 1) (handle p)) c.kept-kept.ensures.turned in
+    let h = c.handle_with.ensures ∙ ap (λ b. cond b (handle p + 1) (handle p)) c.kept-kept.ensures.turned in
     let place = c.in-Some.ensures.place in
     record {
       grows = c.add.ensures.grows;

@@ -5,20 +5,20 @@ use Rattle.diagram.proofs.Passes.{told_may_mark}
 use Rattle.records.proofs.Negates.{negate_flips, negate_stays}
 use Rattle.diagram.proofs.table.Table.negate.Goals as goal
 
-pub returns-then-may-mark : goal.returns-then-may-mark
-returns-then-may-mark g c =
+pub returns-then-may_mark : goal.returns-then-may_mark
+returns-then-may_mark g c =
     let o = g.G.Algebra.ops in
     let s = view c.args.self.now in
     let h = c.args.h in
-    let large = ltb-false h 16 (sym c.is-constant.ensures ∙ c.if-is-constant.false) in
-    let test = told_may_mark o c.args.codes s h c.place-of.result c.record-at.result c.may-mark.result c.requires.codes c.place-of.ensures c.record-at.ensures c.may-mark.ensures in
-    c.flip.ensures ∙ sym (negate_flips o s h large (sym test ∙ c.if-may-mark.true))
+    let large = ltb-false h 16 (sym c.is_constant.ensures ∙ c.if-is_constant.false) in
+    let test = told_may_mark o c.args.codes s h c.place_of.result c.record_at.result c.may_mark.result c.requires.codes c.place_of.ensures c.record_at.ensures c.may_mark.ensures in
+    c.flip.ensures ∙ sym (negate_flips o s h large (sym test ∙ c.if-may_mark.true))
 
-pub returns-else-may-mark : goal.returns-else-may-mark
-returns-else-may-mark g c =
+pub returns-else-may_mark : goal.returns-else-may_mark
+returns-else-may_mark g c =
     let o = g.G.Algebra.ops in
     let s = view c.args.self.now in
     let h = c.args.h in
-    let large = ltb-false h 16 (sym c.is-constant.ensures ∙ c.if-is-constant.false) in
-    let test = told_may_mark o c.args.codes s h c.place-of.result c.record-at.result c.may-mark.result c.requires.codes c.place-of.ensures c.record-at.ensures c.may-mark.ensures in
-    sym (negate_stays o s h large (sym test ∙ c.if-may-mark.false))
+    let large = ltb-false h 16 (sym c.is_constant.ensures ∙ c.if-is_constant.false) in
+    let test = told_may_mark o c.args.codes s h c.place_of.result c.record_at.result c.may_mark.result c.requires.codes c.place_of.ensures c.record_at.ensures c.may_mark.ensures in
+    sym (negate_stays o s h large (sym test ∙ c.if-may_mark.false))

@@ -3,8 +3,8 @@ use Rattle.records.specs.Stores.{store}
 use Rattle.records.proofs.Shapes.{well_none}
 use Rattle.diagram.proofs.table.Table.new.Goals as goal
 
-pub invariant-of-result : goal.invariant-of-result
-invariant-of-result c = (∣ well_none 0 _ (omega arith) c.in-ok-places.ensures.0 ∣₁, tt)
+pub invariant_of-result : goal.invariant_of-result
+invariant_of-result c = record { well = ∣ well_none 0 _ (omega arith) c.in_ok-places.ensures.0 ∣₁ }
 
 pub returns : goal.returns
-returns c = (ap (store 0) c.in-ok-places.ensures.0, c.in-ok-places.ensures.1)
+returns c = (ap (store 0) c.in_ok-places.ensures.0, c.in_ok-places.ensures.1)

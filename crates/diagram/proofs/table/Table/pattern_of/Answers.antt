@@ -6,8 +6,8 @@ use Rattle.diagram.proofs.table.Table.pattern_of.Goals as goal
 few : (c : goal.After-inputs) → c.inputs.result - 1 - c.args.input < 64
 few c = let w = (well c.args.self.now.well).few in omega arith
 
-pub overflow-shl-result : goal.overflow-shl-result
-overflow-shl-result c = few c
+pub overflow_shl-result : goal.overflow_shl-result
+overflow_shl-result c = few c
 
 pub returns : goal.returns
 returns c = one_shl (c.inputs.result - 1 - c.args.input) 64 (few c) ∙ ap (λ n. 2 ^ (n - 1 - c.args.input)) c.inputs.ensures

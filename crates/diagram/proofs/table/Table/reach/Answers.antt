@@ -12,8 +12,8 @@ returns g c =
     let s = view c.args.self.now in
     let o = g.G.Algebra.ops in
     let h = c.args.h in
-    let l : lawful o s h ≡ true = sym c.is-lawful.ensures ∙ c.if-not-is-lawful.false in
+    let l : lawful o s h ≡ true = sym c.is_lawful.ensures ∙ c.if-not-is_lawful.false in
     record {
-      mask = rw l (ap Ok c.reach-of.ensures);
-      meaning = λ sound v. reach_decides g.G.Algebra.laws (well c.args.self.now.well) sound h _ v l c.reach-of.ensures;
+      mask = rw l (ap Ok c.reach_of.ensures);
+      meaning = λ sound v. reach_decides g.G.Algebra.laws (well c.args.self.now.well) sound h _ v l c.reach_of.ensures;
     }

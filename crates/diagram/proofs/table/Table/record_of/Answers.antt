@@ -9,7 +9,7 @@ pub returns : goal.returns
 returns c =
     let s = view c.args.self.now in
     let h = c.args.h in
-    let read : c.record-at.result ≡ s.at (place h) = c.record-at.ensures ∙ ap s.at c.place-of.ensures in
+    let read : c.record_at.result ≡ s.at (place h) = c.record_at.ensures ∙ ap s.at c.place_of.ensures in
     record {
       read = read;
       placed = subst (Placed s (place h)) (sym read) ((well c.args.self.now.well).placed (place h) (place_below h s.used c.requires.large c.requires.within));

@@ -7,5 +7,5 @@ use Rattle.diagram.proofs.table.Table.sides.Goals as goal
 pub returns : goal.returns
 returns c =
     let s = view c.args.self.now in
-    split_place (well c.args.self.now.well) c.args.h c.args.input c.record-at-r.result (ltb-false c.args.h 16 (sym c.is-constant.ensures ∙ c.if-is-constant.false)) c.requires.within
-    (c.record-at-r.ensures ∙ ap s.at c.place-of.ensures) (omega arith)
+    split_place (well c.args.self.now.well) c.args.h c.args.input c.record_at-r.result (ltb-false c.args.h 16 (sym c.is_constant.ensures ∙ c.if-is_constant.false)) c.requires.within
+    (c.record_at-r.ensures ∙ ap s.at c.place_of.ensures) (omega arith)
