@@ -3,8 +3,8 @@ use Rattle.diagram.specs.Views.{view}
 use Rattle.records.proofs.Shapes.{well}
 use Rattle.checking.proofs.grading.value_on.Goals as goal
 
-pub returns-in-default : goal.returns-in-default
-returns-in-default g c lawful small =
+pub returns-in_default : goal.returns-in_default
+returns-in_default g c lawful small =
     let few = (well c.args.table.now.well).few in
     let e = c.inputs.ensures in
-    absurd (c.in-default.ensures (omega arith) (subst (λ n. c.args.number < 2 ^ n) (sym e) small))
+    absurd (c.in_default.ensures (omega arith) (subst (λ n. c.args.number < 2 ^ n) (sym e) small))

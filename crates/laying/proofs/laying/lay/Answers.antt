@@ -32,17 +32,17 @@ pub loop-number-init : goal.loop-number-init
 loop-number-init g c =
     (laying_none g.G.Algebra.laws (well c.args.table.now.well) (room c.args.table.now) (g.M.Memo.recalls c.args.memo.now) c.args.lines.now c.args.handles.now, refl)
 
-pub lay-line-requires : goal.lay-line-requires
-lay-line-requires g c =
+pub lay_line-requires : goal.lay_line-requires
+lay_line-requires g c =
     let kept = c.loop-number.auto in
     record {
       within = omega arith;
       rows = omega (arith, c.loop-number.invariant.0.written.grows.inputs, c.inputs.ensures, c.if-rows-inputs.false);
     }
 
-pub returns-in-err-h : goal.returns-in-err-h
-returns-in-err-h g c =
-    let p = err_from_is_err_and c.from-residual.result c.from-residual.ensures.1 in
+pub returns-in_err-h : goal.returns-in_err-h
+returns-in_err-h g c =
+    let p = err_from_is_err_and c.from_residual.result c.from_residual.ensures.1 in
     let o = g.G.Algebra.ops in
     let s = view c.args.table.now in
     let P = g.M.Memo.recalls c.args.memo.now in
@@ -50,16 +50,16 @@ returns-in-err-h g c =
     let k = c.loop-number.number in
     let hs = c.loop-number.handles in
     let t = view c.loop-number.table in
-    let u = view c.lay-line.new.table in
+    let u = view c.lay_line.new.table in
     let Q = g.M.Memo.recalls c.loop-number.memo in
-    let R = g.M.Memo.recalls c.lay-line.new.memo in
+    let R = g.M.Memo.recalls c.lay_line.new.memo in
     let h = c.loop-number-test.true in
     let inv = c.loop-number.invariant in
-    let told = c.lay-line.ensures in
+    let told = c.lay_line.ensures in
     let l : Line = get_or ls k blank_line in
-    let err = line_err c.lay-line.result k c.in-err-h.field-0.0 c.in-err-h.ensures in
-    let f = c.in-err-h.field-0.0.fault in
-    let is : c.from-residual.result ≡ Err (AtLine (record { line = k; fault = f })) = p.1 ∙ ap Err (p.2 ∙ ap AtLine err.1) in
+    let err = line_err c.lay_line.result k c.in_err-h.field-0.0 c.in_err-h.ensures in
+    let f = c.in_err-h.field-0.0.fault in
+    let is : c.from_residual.result ≡ Err (AtLine (record { line = k; fault = f })) = p.1 ∙ ap Err (p.2 ∙ ap AtLine err.1) in
     let long : length ls ≤ length hs = (let e = c.loop-number.auto in omega (arith, c.if-handles-lines.false)) in
     let here = get_or_default ls k blank_line l h in
     let stays = line_refused inv.0 l h here long u R f (subst (λ r. Lined o t u Q R (take k hs) k l r) err.0 told.lined) in
@@ -78,15 +78,15 @@ loop-number-preserved g c =
     let k = c.loop-number.number in
     let hs = c.loop-number.handles in
     let t = view c.loop-number.table in
-    let u = view c.lay-line.new.table in
+    let u = view c.lay_line.new.table in
     let Q = g.M.Memo.recalls c.loop-number.memo in
-    let R = g.M.Memo.recalls c.lay-line.new.memo in
+    let R = g.M.Memo.recalls c.lay_line.new.memo in
     let h = c.loop-number-test.true in
     let inv = c.loop-number.invariant in
-    let told = c.lay-line.ensures in
-    let x = c.in-ok-h.h in
+    let told = c.lay_line.ensures in
+    let x = c.in_ok-h.h in
     let l : Line = get_or ls k blank_line in
-    let ok = line_ok c.lay-line.result k x c.in-ok-h.ensures in (
+    let ok = line_ok c.lay_line.result k x c.in_ok-h.ensures in (
       laying_more inv.0 l h (get_or_default ls k blank_line l h) (let e = c.loop-number.auto in omega (arith, c.if-handles-lines.false)) u R x
           (subst (λ r. Lined o t u Q R (take k hs) k l r) ok told.lined)
           (subst (λ n. LineKept o n t u Q R (take k hs) l (line_answer (Ok x))) inv.1 (subst (λ r. LineKept o (room c.loop-number.table) t u Q R (take k hs) l (line_answer r)) ok told.kept)),

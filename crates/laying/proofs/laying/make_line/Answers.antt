@@ -10,8 +10,8 @@ use Rattle.netlist.specs.Signals.{input, constant, turned, joined}
 use Rattle.laying.proofs.Lines.{input_inside, code_inside, one_earlier, both_earlier, operator_known, one_operand, two_operands, input_refuses, constant_refuses, turn_refuses, join_refuses, outcome, signal_input, signal_constant, signal_turned, signal_joined, earlier_signal, made_kept, out_kept}
 use Rattle.laying.proofs.laying.make_line.Goals as goal
 
-pub overflow-cast-line : goal.overflow-cast-line
-overflow-cast-line g c =
+pub overflow_cast-line : goal.overflow_cast-line
+overflow_cast-line g c =
     let few = (well c.args.table.now.well).few in
     let inside = input_inside g.G.Algebra.ops _ _ c.args.line c.requires.accepted c.if-line-eq-INPUT.true in
     omega arith

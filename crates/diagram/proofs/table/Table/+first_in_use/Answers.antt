@@ -47,8 +47,8 @@ returns-then-is_up g t c =
       first = low_leads laws w h v u m r large c.requires.within read c.under_mark-below.ensures c.reach_of.ensures x (sym c.is_up.ensures ∙ c.if-is_up.true) small c.first_in_use.ensures.first;
     }
 
-pub first_in_use-default-requires : goal.first_in_use-default-requires
-first_in_use-default-requires g t c κs within =
+pub first_in_use-rest-requires : goal.first_in_use-rest-requires
+first_in_use-rest-requires g t c κs within =
     let h = c.args.h in
     let large = ltb-false h 16 (sym c.is_constant.ensures ∙ c.if-is_constant.false) in
     let u = c.requires.within in
@@ -68,7 +68,7 @@ overflow_add-result g t c =
     let m = c.reach_of.result in
     let r = c.record_of-record.result in
     let large = ltb-false h 16 (sym c.is_constant.ensures ∙ c.if-is_constant.false) in
-    let sum = high_small laws w h v u m r large c.requires.within c.record_of-record.ensures.read c.under_mark-below.ensures c.reach_of.ensures c.first_in_use-default.result c.pattern_of.result c.record_of-record.ensures.placed c.first_in_use-default.ensures.small c.pattern_of.ensures in
+    let sum = high_small laws w h v u m r large c.requires.within c.record_of-record.ensures.read c.under_mark-below.ensures c.reach_of.ensures c.first_in_use-rest.result c.pattern_of.result c.record_of-record.ensures.placed c.first_in_use-rest.ensures.small c.pattern_of.ensures in
     let k : n - level (view c.args.self.now) h ≤ 60 = omega (arith, w.few) in
     let most : 2 ^ (n - level (view c.args.self.now) h) ≤ 2 ^ 60 = pow_mono k in
     omega arith
@@ -82,12 +82,12 @@ returns g t c =
     let u = c.under_mark-below.result in
     let m = c.reach_of.result in
     let r = c.record_of-record.result in
-    let x = c.first_in_use-default.result in
+    let x = c.first_in_use-rest.result in
     let y = c.pattern_of.result in
     let large = ltb-false h 16 (sym c.is_constant.ensures ∙ c.if-is_constant.false) in
     let read = c.record_of-record.ensures.read in
-    let small = c.first_in_use-default.ensures.small in
+    let small = c.first_in_use-rest.ensures.small in
     record {
       small = high_small laws w h v u m r large c.requires.within read c.under_mark-below.ensures c.reach_of.ensures x y c.record_of-record.ensures.placed small c.pattern_of.ensures;
-      first = high_leads laws w h v u m r large c.requires.within read c.under_mark-below.ensures c.reach_of.ensures x y (sym c.is_up.ensures ∙ c.if-is_up.false) small c.pattern_of.ensures c.first_in_use-default.ensures.first;
+      first = high_leads laws w h v u m r large c.requires.within read c.under_mark-below.ensures c.reach_of.ensures x y (sym c.is_up.ensures ∙ c.if-is_up.false) small c.pattern_of.ensures c.first_in_use-rest.ensures.first;
     }
