@@ -1,7 +1,7 @@
 -- What a book says: the signal of a given handle, one number for one signal, and how many different parts there are.
 -- Assumes nothing.
 use Rattle.std.proofs.Common.{◌≡◌, ℕ, ◌<◌, Bool, true, false, cond, eqb, List, [], ◌∷◌, ◌++◌, length, sym, refl, ap, ◌∙◌, subst, inl, inr, ⊎_elim, arith, pow_pos}
-use Rattle.std.specs.List.{AllByRecursion as All}
+use Rattle.std.specs.List.{AllByRecursion}
 use Rattle.std.proofs.ByRecursion.{All-get_or, All-weaker, All-map}
 use Rattle.std.proofs.lemmas.Bool.{cases_Bool, cond-true, cond-false, eqb-true, both_ways}
 use Rattle.algebra.specs.Ops.{Ops}
@@ -29,19 +29,19 @@ booked_append [] ys b = refl
 booked_append (x ∷ xs) ys b = booked_append xs ys (booked x b)
 
 -- what holds of every entry held before
-pub before_step : (P : Entry → Type 0) (r : Signal) (a : Answer) (b : Book) → All P (booked (step r a) b) → All P b
+pub before_step : (P : Entry → Type 0) (r : Signal) (a : Answer) (b : Book) → AllByRecursion P (booked (step r a) b) → AllByRecursion P b
 before_step P r (told h) b all = all.1
 before_step P r full b all = all
 before_step P r refused b all = all
 
-pub before_steps : (P : Entry → Type 0) (xs : List Step) (b : Book) → All P (all_booked xs b) → All P b
+pub before_steps : (P : Entry → Type 0) (xs : List Step) (b : Book) → AllByRecursion P (all_booked xs b) → AllByRecursion P b
 unfolding all_booked
 before_steps P [] b all = all
 before_steps P (x ∷ xs) b all = before_step P x.result x.answer b (before_steps P xs (booked x b) all)
 
 -- ---- the signal of a given handle
 
-pub signal_given : (o : Ops) (n : ℕ) (s : Store) (b : Book) (h : ℕ) → All (Stands o n s) b → Agree n (value o s h) (signal_of b (given o s h))
+pub signal_given : (o : Ops) (n : ℕ) (s : Store) (b : Book) (h : ℕ) → AllByRecursion (Stands o n s) b → Agree n (value o s h) (signal_of b (given o s h))
 unfolding signal_of
 signal_given o n s [] h all p k = refl
 signal_given o n s (e ∷ es) h all p k =

@@ -1,6 +1,6 @@
 -- Compare keeps the law of runs: its two netlists as two lays, and then one pair at a time. Assumes nothing.
 use Rattle.std.proofs.Common.{◌≡◌, ℕ, suc, ◌+◌, ◌<◌, ◌≤◌, Bool, true, false, cond, eqb, List, [], ◌∷◌, ◌++◌, map, length, get_or, take, Ok, Err, Option, Result, sym, refl, ap, ◌∙◌, subst, ap₂, append_assoc, append-nil, arith}
-use Rattle.std.specs.List.{AllByRecursion as All}
+use Rattle.std.specs.List.{AllByRecursion}
 use Rattle.std.proofs.lemmas.List.{take_more, length-map, length_push}
 use Rattle.algebra.specs.Ops.{Ops}
 use Rattle.algebra.specs.Laws.{Laws}
@@ -176,11 +176,11 @@ module _ (o : Ops) (n : ℕ) (ls ms : List Line) (hs ks gs : List ℕ) (due : Du
           ∙ ap (λ l. line_steps o n ls hs ++ l) (sym (append_assoc (line_steps o n ms ks) c (new ∷ [])))
           ∙ sym (append_assoc (line_steps o n ls hs) (line_steps o n ms ks ++ c) (new ∷ []))
 
-  module _ (s : Store) (b : Book) (all : All (Stands o n s) (all_booked (all_steps o n ls ms hs ks (map told gs)) b)) where
-    both : All (Stands o n s) (all_booked (line_steps o n ms ks) (all_booked (line_steps o n ls hs) b))
+  module _ (s : Store) (b : Book) (all : AllByRecursion (Stands o n s) (all_booked (all_steps o n ls ms hs ks (map told gs)) b)) where
+    both : AllByRecursion (Stands o n s) (all_booked (line_steps o n ms ks) (all_booked (line_steps o n ls hs) b))
     both =
         before_steps (Stands o n s) (zipped step (pair_signals o n ls ms) (map told gs)) (all_booked (line_steps o n ms ks) (all_booked (line_steps o n ls hs) b))
-        (subst (All (Stands o n s))
+        (subst (AllByRecursion (Stands o n s))
         (booked_append (line_steps o n ls hs) (line_steps o n ms ks ++ zipped step (pair_signals o n ls ms) (map told gs)) b
         ∙ booked_append (line_steps o n ms ks) (zipped step (pair_signals o n ls ms) (map told gs)) (all_booked (line_steps o n ls hs) b))
         all)
@@ -220,10 +220,10 @@ module _ (o : Ops) (n : ℕ) (ls ms : List Line) (hs ks gs : List ℕ) (due : Du
       (before.0 ∙ e, before.1 ∙ ap (λ k. take k zs) e)
 
 module _ {o : Ops} (laws : Laws o) {s t : Store} (w : Well s) (v : Well t) {room : ℕ} (fits : t.used ≤ room) (P Q : Pairs) (run : Run) (refusal : Option TableFault) (ls ms : List Line) (hs ks gs : List ℕ) (fs : List Finding) (due : Due ls ms hs ks gs) (x y : ℕ) (x-is : x ≡ get_or (outs ls hs) (length gs) 0) (y-is : y ≡ get_or (outs ms ks) (length gs) 0) where
-  pair_left : (b : Book) → All (Stands o t.inputs s) (all_booked (all_steps o t.inputs ls ms hs ks (map told gs)) b) → Agree t.inputs (value o s x) (signal_at (out_signals o t.inputs ls) (length gs))
+  pair_left : (b : Book) → AllByRecursion (Stands o t.inputs s) (all_booked (all_steps o t.inputs ls ms hs ks (map told gs)) b) → Agree t.inputs (value o s x) (signal_at (out_signals o t.inputs ls) (length gs))
   pair_left b all p k = ap (λ h. value o s h p) x-is ∙ left_agrees o t.inputs ls ms hs ks gs due s b all p k
 
-  pair_right : (b : Book) → All (Stands o t.inputs s) (all_booked (all_steps o t.inputs ls ms hs ks (map told gs)) b) → Agree t.inputs (value o s y) (signal_at (out_signals o t.inputs ms) (length gs))
+  pair_right : (b : Book) → AllByRecursion (Stands o t.inputs s) (all_booked (all_steps o t.inputs ls ms hs ks (map told gs)) b) → Agree t.inputs (value o s y) (signal_at (out_signals o t.inputs ms) (length gs))
   pair_right b all p k = ap (λ h. value o s h p) y-is ∙ right_agrees o t.inputs ls ms hs ks gs due s b all p k
 
   pair_stepped : (b : Book) (r : Result ℕ TableFault) → Shape s t P Q refusal r → Meaning o room s t P Q (joined o 9 (value o s x) (value o s y)) r

@@ -1,7 +1,7 @@
 -- Lay and compare keep the law of runs, one line or pair at a time: the call so far is an event with the answers so far.
 -- Assumes nothing.
 use Rattle.std.proofs.Common.{◌≡◌, ℕ, zero, suc, ◌+◌, ◌<◌, ◌≤◌, Bool, true, false, cond, eqb, List, [], ◌∷◌, ◌++◌, map, length, get_or, take, drop, set, None, Ok, Option, Result, sym, refl, ap, ◌∙◌, subst, ap₂, append_assoc, append-nil, arith}
-use Rattle.std.specs.List.{AllByRecursion as All}
+use Rattle.std.specs.List.{AllByRecursion}
 use Rattle.std.proofs.lemmas.List.{take-append-drop, take_at, take_more_set, length-take-le, length-map, get_or-take, get_or_push, get_or-map, map_push}
 use Rattle.std.proofs.lemmas.Bool.{cond-true, cond-false, eq-eqb, ne_eqb}
 use Rattle.algebra.specs.Ops.{Ops}
@@ -134,7 +134,7 @@ Signalled o n s (h ∷ hs) [] = ⊥
 Signalled o n s (h ∷ hs) (x ∷ ss) = Stands o n s (record { number = h; signal = x }) × Signalled o n s hs ss
 
 module _ (o : Ops) (n : ℕ) (s : Store) where
-  pub told_signalled : (ss : List Signal) (hs : List ℕ) (b : Book) → length hs ≤ length ss → All (Stands o n s) (all_booked (zipped step ss (map told hs)) b) → Signalled o n s hs ss
+  pub told_signalled : (ss : List Signal) (hs : List ℕ) (b : Book) → length hs ≤ length ss → AllByRecursion (Stands o n s) (all_booked (zipped step ss (map told hs)) b) → Signalled o n s hs ss
   unfolding Signalled zipped all_booked
   told_signalled ss [] b h all = tt
   told_signalled [] (x ∷ hs) b h all = absurd (omega arith)

@@ -1,6 +1,6 @@
 -- What is left of a list of signals when constants and repetitions are dropped.
 use Rattle.std.proofs.Common.{◌≡◌, ℕ, zero, suc, ◌<◌, Bool, true, false, ◌||◌, List, [], ◌∷◌, length, Decides, refl, ap, inl, inr, ⊎_elim, le_of_suc-le-suc, not-suc-le-zero}
-use Rattle.std.specs.List.{AllByRecursion as All}
+use Rattle.std.specs.List.{AllByRecursion}
 use Rattle.std.proofs.lemmas.Bool.{false≢true, both_ways, or_cases, or_parts, cond_both}
 use Rattle.std.proofs.lemmas.Bool.Decides.{Decides-or}
 use Rattle.algebra.specs.Ops.{Ops}
@@ -41,11 +41,11 @@ different_among o n P (t ∷ ts) =
     (λ _. ⊎_elim inl (λ a. inr (different_among o n P ts a)))
 
 -- none is constant
-pub different_vary : (o : Ops) (n : ℕ) (ts : List Signal) → All (λ t. is_constant n t ≡ false) (different o n ts)
+pub different_vary : (o : Ops) (n : ℕ) (ts : List Signal) → AllByRecursion (λ t. is_constant n t ≡ false) (different o n ts)
 unfolding different
 different_vary o n [] = tt
 different_vary o n (t ∷ ts) =
-    cond_both (dropped o n t ts) (different o n ts) (t ∷ different o n ts) (All (λ t. is_constant n t ≡ false))
+    cond_both (dropped o n t ts) (different o n ts) (t ∷ different o n ts) (AllByRecursion (λ t. is_constant n t ≡ false))
     (λ _. different_vary o n ts)
     (λ e. ((or_parts (is_constant n t) (among (one_part o n t) ts) e).0, different_vary o n ts))
 

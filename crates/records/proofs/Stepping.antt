@@ -1,7 +1,7 @@
 -- One single result: the table and the memo that it leaves keep what holds of the book, and what it was told is judged rightly.
 -- Assumes nothing.
 use Rattle.std.proofs.Common.{◌≡◌, ℕ, zero, suc, ◌<◌, ◌≤◌, ◌⊎◌, List, [], ◌∷◌, ◌++◌, length, Some, None, Ok, Err, Option, Result, sym, refl, ap, ◌∙◌, subst, inl, inr, ⊎_elim, arith}
-use Rattle.std.specs.List.{AllByRecursion as All}
+use Rattle.std.specs.List.{AllByRecursion}
 use Rattle.std.proofs.ByRecursion.{All-weaker}
 use Rattle.std.proofs.lemmas.Bool.{cases_lt}
 use Rattle.algebra.specs.Ops.{Ops}
@@ -26,7 +26,7 @@ use Rattle.records.proofs.Books.{booked_append, places_counted}
 
 -- ---- a table that grows
 
-stands_grow : (o : Ops) (n : ℕ) {s t : Store} → Well s → Grows s t → (b : Book) → All (Stands o n s) b → All (Stands o n t) b
+stands_grow : (o : Ops) (n : ℕ) {s t : Store} → Well s → Grows s t → (b : Book) → AllByRecursion (Stands o n s) b → AllByRecursion (Stands o n t) b
 stands_grow o n {s} {t} w grows =
     All-weaker (Stands o n s) (Stands o n t)
     (λ e q. record {

@@ -1,7 +1,7 @@
 -- The law of runs: what is found after every list of calls since a start. A run is told by the calls' arguments, the
 -- handles that they answer and their refusals; never by the table's records. Assumes nothing.
 use Rattle.std.specs.Prelude.{◌≡◌, ℕ, zero, suc, ◌<◌, ◌≤◌, Bool, true, false, cond, List, [], ◌∷◌, ◌++◌, map, length, take, Ok, Err, Result, ◌==◌}
-use Rattle.std.specs.List.{AllByRecursion as All}
+use Rattle.std.specs.List.{AllByRecursion}
 use Rattle.algebra.specs.Ops.{Ops}
 use Rattle.netlist.specs.declared.line.Line.{Line}
 use Rattle.netlist.specs.declared.finding.Finding.{Finding}
@@ -114,7 +114,7 @@ kept_pairs (refused ∷ xs) = 0
 -- Two booked handles are equal exactly when their signals agree on every pattern.
 abbrev pub OneNumber : ℕ → Book → Type 0
 OneNumber n b =
-    All (λ e. All (λ f. (e.number ≡ f.number → Agree n e.signal f.signal) × (Agree n e.signal f.signal → e.number ≡ f.number)) b) b
+    AllByRecursion (λ e. AllByRecursion (λ f. (e.number ≡ f.number → Agree n e.signal f.signal) × (Agree n e.signal f.signal → e.number ≡ f.number)) b) b
 
 module _ (o : Ops) (n : ℕ) where
   -- The single results of an event, in order.
@@ -193,7 +193,7 @@ pub record Stands (o : Ops) (n : ℕ) (s : Store) (e : Entry) : Type 0 where
 pub record Holds (o : Ops) (n : ℕ) (b : Book) (s : Store) (P : Pairs) : Type 0 where
   pub sound : Sound o s
   pub pairs : TruePairs o s P
-  pub handles : All (Stands o n s) b
+  pub handles : AllByRecursion (Stands o n s) b
   pub parts : (p : ℕ) → p < s.used → PartIn o n (book_signals b) (value o s (handle p))
 
 -- What holds of a run, of the table and of the memo after it.

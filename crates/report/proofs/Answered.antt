@@ -1,6 +1,6 @@
 -- What a run of one compare that was kept says of the report: by its answer. Assumes nothing.
 use Rattle.std.proofs.Common.{◌≡◌, ℕ, suc, ◌<◌, List, [], ◌∷◌, ◌++◌, map, reverse, length, take, Some, None, Ok, Err, sym, refl, ap, ◌∙◌, subst, ap₂, append_assoc, arith}
-use Rattle.std.specs.List.{AllByRecursion as All}
+use Rattle.std.specs.List.{AllByRecursion}
 use Rattle.std.proofs.lemmas.List.{length-map, length-take-le, take_all}
 use Rattle.std.proofs.ByRecursion.{All-append}
 use Rattle.algebra.specs.Ops.{Ops}
@@ -119,7 +119,7 @@ module _ (o : Ops) (n room : ℕ) (ls ms : List Line) (t : Store) (Q : Pairs) (i
         second_passes : refused_line o n room (line_signals o n ls) ms ≡ None
         second_passes = lines_pass o n room t one (line_signals o n ls) one_is ms ks long' passed' split.second
 
-        all_lawful : All (Lawful o t) (hs ++ ks)
+        all_lawful : AllByRecursion (Lawful o t) (hs ++ ks)
         all_lawful =
             All-append (Lawful o t) hs ks
             (told_lawful o n room t (line_signals o n ls) hs [] (omega (arith, signals_length o n ls)) split.first)

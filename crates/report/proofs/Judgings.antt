@@ -1,6 +1,6 @@
 -- What the answers to the steps of an event say of the room. Assumes nothing.
 use Rattle.std.proofs.Common.{◌≡◌, ℕ, zero, suc, ◌+◌, ◌-◌, ◌<◌, ◌≤◌, List, [], ◌∷◌, ◌++◌, map, reverse, length, take, sym, ap, ◌∙◌, subst, append_assoc, append-nil, arith}
-use Rattle.std.specs.List.{AllByRecursion as All}
+use Rattle.std.specs.List.{AllByRecursion}
 use Rattle.std.proofs.lemmas.List.{reverse-append, length-reverse, get_or-reverse, take_all}
 use Rattle.std.proofs.ByRecursion.{All-from_get_or}
 use Rattle.algebra.specs.Ops.{Ops}
@@ -41,7 +41,7 @@ push_reversed ss s = sym (reverse-append ss (s ∷ []))
 module _ (o : Ops) (n room : ℕ) (t : Store) where
   -- each step is judged rightly, and the booked handles stand
   abbrev pub Faring : Book → List Step → Type 0
-  Faring b xs = AllJudged o n room b xs × All (Stands o n t) (all_booked xs b)
+  Faring b xs = AllJudged o n room b xs × AllByRecursion (Stands o n t) (all_booked xs b)
 
   judged_append : (xs ys : List Step) (b : Book) → AllJudged o n room b (xs ++ ys) → AllJudged o n room b xs × AllJudged o n room (all_booked xs b) ys
   unfolding AllJudged all_booked
@@ -51,11 +51,11 @@ module _ (o : Ops) (n room : ℕ) (t : Store) where
   pub faring_append : (xs ys : List Step) (b : Book) → Faring b (xs ++ ys) → Faring b xs × Faring (all_booked xs b) ys
   faring_append xs ys b f =
       let j = judged_append xs ys b f.0 in
-      let all = subst (All (Stands o n t)) (booked_append xs ys b) f.1 in
+      let all = subst (AllByRecursion (Stands o n t)) (booked_append xs ys b) f.1 in
       ((j.0, before_steps (Stands o n t) ys (all_booked xs b) all), (j.1, all))
 
   -- the booked handles are lawful
-  pub told_lawful : (ss : List Signal) (hs : List ℕ) (b : Book) → length hs ≤ length ss → Faring b (zipped step ss (map told hs)) → All (Lawful o t) hs
+  pub told_lawful : (ss : List Signal) (hs : List ℕ) (b : Book) → length hs ≤ length ss → Faring b (zipped step ss (map told hs)) → AllByRecursion (Lawful o t) hs
   told_lawful ss hs b h f =
       let all = told_signalled o n t ss hs b h f.1 in
       All-from_get_or (Lawful o t) hs 0 (λ k l. (signalled_here o n t hs ss all k l).lawful)

@@ -1,6 +1,6 @@
 -- Where the lines of a netlist stop, from what they were told. Assumes nothing.
 use Rattle.std.proofs.Common.{◌≡◌, ℕ, suc, ◌+◌, ◌<◌, List, [], ◌∷◌, ◌++◌, map, reverse, length, get_or, take, drop, Some, None, Err, sym, ap, ◌∙◌, subst, ⊎_elim, append_assoc, add-one, arith}
-use Rattle.std.specs.List.{AllByRecursion as All}
+use Rattle.std.specs.List.{AllByRecursion}
 use Rattle.std.proofs.lemmas.List.{length-map, length-take-le, take_more}
 use Rattle.std.proofs.ByRecursion.{All-get_or}
 use Rattle.std.proofs.lemmas.Bool.{both_ways}
@@ -27,7 +27,7 @@ use Rattle.report.proofs.Overs.{Roomy, over_none, over_at, over_later, neither, 
 use Rattle.report.proofs.Judgings.{Faring, faring_append, told_lawful, told_roomy, told_booked, full_over}
 
 -- where all handles are lawful, the table refuses only for want of room
-pub refuses_full : (o : Ops) (t : Store) (hs : List ℕ) (f : TableFault) → All (Lawful o t) hs → TableRefuses o t hs f → f ≡ Full
+pub refuses_full : (o : Ops) (t : Store) (hs : List ℕ) (f : TableFault) → AllByRecursion (Lawful o t) hs → TableRefuses o t hs f → f ≡ Full
 refuses_full o t hs f all refuses =
     ⊎_elim
     (λ e. e)
@@ -45,7 +45,7 @@ module _ (o : Ops) (n room : ℕ) (t : Store) (b : Book) (before : List Signal) 
         let r = faring_append o n room t (zipped step ss (map told hs)) (step (nth ss k) a ∷ []) b (subst (Faring o n room t b) e faring) in
         (r.0, r.1.0)
 
-    pub stopped_lawful : (a : Answer) → Faring o n room t b (zipped step ss (map told hs ++ a ∷ [])) → All (Lawful o t) hs
+    pub stopped_lawful : (a : Answer) → Faring o n room t b (zipped step ss (map told hs ++ a ∷ [])) → AllByRecursion (Lawful o t) hs
     stopped_lawful a faring = told_lawful o n room t ss hs b (omega arith) (stopped a faring).0
 
     pub stopped_roomy : (a : Answer) → Faring o n room t b (zipped step ss (map told hs ++ a ∷ [])) → Roomy o n room before ss k

@@ -1,6 +1,6 @@
 -- Two netlists in a row: their sizes, their text, and that bytes have one reading at most. Assumes nothing.
 use Rattle.std.proofs.Common.{◌≡◌, ℕ, suc, ◌+◌, ◌*◌, ◌≤◌, Bool, true, false, cond, ◌&&◌, eqb, ltb, List, [], ◌∷◌, ◌++◌, length, take, drop, Ok, Err, Result, sym, refl, ap, ◌∙◌, subst, ⊎_elim, arith, length-drop, length-take, take_all, take_at, drop_at}
-use Rattle.std.specs.List.{AllByRecursion as All}
+use Rattle.std.specs.List.{AllByRecursion}
 use Rattle.std.proofs.lemmas.List.{length-append, take-append-drop}
 use Rattle.std.proofs.lemmas.Bool.{cond-true, cond-false, lt-ltb, le-ltb, eq-eqb, and_from, and_parts, eqb-true, cases_Bool}
 use Rattle.netlist.specs.declared.line.Line.{Line}
@@ -16,7 +16,7 @@ use Rattle.text.proofs.Tested.{line_framed, head_framed}
 use Rattle.text.proofs.Begun.{head_fits}
 use Rattle.text.proofs.Unique.{begun, functional}
 
-lines_length : (m : ℕ) (ls : List Line) → All Readable ls → length (lines_text m ls) ≡ 25 * length ls
+lines_length : (m : ℕ) (ls : List Line) → AllByRecursion Readable ls → length (lines_text m ls) ≡ 25 * length ls
 unfolding lines_text
 lines_length m [] p = refl
 lines_length m (l ∷ ls) p =
@@ -25,7 +25,7 @@ lines_length m (l ∷ ls) p =
     let c = lines_length (suc m) ls p.1 in
     omega arith
 
-pub netlist_length : (i v : ℕ) (ls : List Line) → All Readable ls → length (netlist_text i v ls) ≡ 25 * (length ls + 1)
+pub netlist_length : (i v : ℕ) (ls : List Line) → AllByRecursion Readable ls → length (netlist_text i v ls) ≡ 25 * (length ls + 1)
 unfolding netlist_text
 netlist_length i v ls p =
     let a = length-append (head_row (length ls) i v) (lines_text 0 ls) in

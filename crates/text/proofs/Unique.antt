@@ -1,6 +1,6 @@
 -- Bytes have one reading at most. Assumes nothing.
 use Rattle.std.proofs.Common.{◌≡◌, ℕ, zero, suc, ◌+◌, ◌-◌, ◌*◌, ◌<◌, ◌≤◌, true, List, [], ◌∷◌, ◌++◌, length, take, drop, Ok, Err, Result, sym, refl, ap, ◌∙◌, subst, ⊎_elim, arith, drop-drop, take_at, drop_at}
-use Rattle.std.specs.List.{AllByRecursion as All}
+use Rattle.std.specs.List.{AllByRecursion}
 use Rattle.std.proofs.lemmas.List.{take-take, drop-take}
 use Rattle.std.proofs.lemmas.Bool.{cases_order, cases_Bool, cond-false}
 use Rattle.netlist.specs.declared.line.Line.{Line}
@@ -75,7 +75,7 @@ same_line n l m r q e =
     same_fields l m k a b
 
 -- one list of lines to their rows
-same_lines : (n : ℕ) (ls ms : List Line) → length ls ≡ length ms → All Readable ls → All Readable ms → lines_text n ls ≡ lines_text n ms → ls ≡ ms
+same_lines : (n : ℕ) (ls ms : List Line) → length ls ≡ length ms → AllByRecursion Readable ls → AllByRecursion Readable ms → lines_text n ls ≡ lines_text n ms → ls ≡ ms
 unfolding lines_text
 same_lines n [] [] h p q e = refl
 same_lines n [] (m ∷ ms) h p q e = absurd (omega arith)
@@ -90,7 +90,7 @@ same_lines n (l ∷ ls) (m ∷ ms) h p q e =
     ap (λ z. z ∷ ls) u ∙ ap (λ z. m ∷ z) w
 
 -- the row of each line
-row_of : (n : ℕ) (ls : List Line) (j : ℕ) → j < length ls → All Readable ls → (l : Line) × Readable l × (take 25 (drop (25 * j) (lines_text n ls)) ≡ line_row (n + j) l)
+row_of : (n : ℕ) (ls : List Line) (j : ℕ) → j < length ls → AllByRecursion Readable ls → (l : Line) × Readable l × (take 25 (drop (25 * j) (lines_text n ls)) ≡ line_row (n + j) l)
 unfolding lines_text
 row_of n [] j h p = absurd (omega arith)
 row_of n (l ∷ ls) zero h p =

@@ -1,6 +1,6 @@
 -- The text of a netlist: a HEAD row and a row for each line. Assumes nothing.
 use Rattle.std.specs.Prelude.{◌≡◌, ℕ, suc, ◌<◌, ◌≤◌, Bool, true, cond, ◌||◌, ◌⊎◌, List, [], ◌∷◌, ◌++◌, length, take, Some, None, codes, Option, ◌==◌, slice_index_or}
-use Rattle.std.specs.List.{AllByRecursion as All}
+use Rattle.std.specs.List.{AllByRecursion}
 use Rattle.netlist.specs.declared.line.Line.{Line}
 use Rattle.text.specs.declared.fault.RowFault.{RowFault}
 use Rattle.text.specs.declared.fault.RowFault.TheVariants.{Incomplete, Word, Field, OutOfTurn, Limits}
@@ -76,7 +76,7 @@ HeadTest s Limits = (count : ℕ) × (inputs : ℕ) × (values : ℕ) × HeadRow
 -- a netlist that has a text
 pub record Writable (inputs values : ℕ) (lines : List Line) : Type 0 where
   pub short : length lines < 100000
-  pub readable : All Readable lines
+  pub readable : AllByRecursion Readable lines
   pub allowed : Allowed inputs values
 
 -- the rows of lines, the first of which has the number n

@@ -1,6 +1,6 @@
 -- What reading a netlist from bytes into a list of lines comes to. Assumes nothing.
 use Rattle.std.specs.Prelude.{◌≡◌, ℕ, ◌+◌, ◌*◌, ◌<◌, ◌≤◌, List, ◌++◌, length, take, drop, Ok, Err, Result}
-use Rattle.std.specs.List.{AllByRecursion as All}
+use Rattle.std.specs.List.{AllByRecursion}
 use Rattle.netlist.specs.declared.line.Line.{Line}
 use Rattle.text.specs.declared.header.Header.{Header}
 use Rattle.text.specs.declared.fault.RowFault.{RowFault}
@@ -20,7 +20,7 @@ pub record Begins (bytes : List ℕ) (from count inputs values : ℕ) (lines : L
   pub head : HeadRow (row_at bytes from) count inputs values
   pub allowed : Allowed inputs values
   pub rows : take (25 * length lines) (drop (from + 25) bytes) ≡ lines_text 0 lines
-  pub readable : All Readable lines
+  pub readable : AllByRecursion Readable lines
 
 -- the list begins with these lines now, and its other entries are as before
 pub record Filled (before after lines : List Line) : Type 0 where

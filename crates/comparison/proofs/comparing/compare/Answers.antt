@@ -10,9 +10,9 @@ use Rattle.comparison.specs.Compares.{Compared, compare_event}
 use Rattle.comparison.proofs.Comparings.{none_laid, counts_refused, counts_event, begun_refused, begun, rows_event_kept}
 use Rattle.comparison.proofs.comparing.compare.Goals as goal
 
-pub returns-in-err-pairs : goal.returns-in-err-pairs
-returns-in-err-pairs g c =
-    let p = err_from_is_err_and c.from-residual.result c.from-residual.ensures.1 in
+pub returns-in_err-pairs : goal.returns-in_err-pairs
+returns-in_err-pairs g c =
+    let p = err_from_is_err_and c.from_residual.result c.from_residual.ensures.1 in
     let o = g.G.Algebra.ops in
     let n = room c.args.table.now in
     let s = view c.args.table.now in
@@ -21,9 +21,9 @@ returns-in-err-pairs g c =
     let ms = c.args.second.now in
     let hs = c.args.handles.now in
     let cs = c.args.found.now in
-    let e = c.in-err-pairs.field-0.0 in
-    let x = c.in-err-pairs.ensures in
-    let is : c.from-residual.result ≡ Err e = p.1 ∙ ap Err p.2 in
+    let e = c.in_err-pairs.field-0.0 in
+    let x = c.in_err-pairs.ensures in
+    let is : c.from_residual.result ≡ Err e = p.1 ∙ ap Err p.2 in
     record {
       compared = subst (λ r. Compared o s s P P (length c.args.rows.now) ls ms hs hs cs cs r) (sym is) (counts_refused o s P (length c.args.rows.now) ls ms hs cs e x);
       room = refl;
@@ -35,15 +35,15 @@ returns-in-err-pairs g c =
 pub returns-then-rows-inputs : goal.returns-then-rows-inputs
 returns-then-rows-inputs g c =
     record {
-      compared = (c.in-ok-pairs.ensures.1, omega (arith, c.if-rows-inputs.true, c.inputs.ensures), refl, record { table = refl; memo = refl; handles = refl; found = refl });
+      compared = (c.in_ok-pairs.ensures.1, omega (arith, c.if-rows-inputs.true, c.inputs.ensures), refl, record { table = refl; memo = refl; handles = refl; found = refl });
       room = refl;
       kept = none_laid g.G.Algebra.laws (well c.args.table.now.well) (room c.args.table.now) (g.M.Memo.recalls c.args.memo.now) c.args.first.now c.args.second.now;
     }
 
-pub compare-parts-requires : goal.compare-parts-requires
-compare-parts-requires g c =
-    let k = c.in-ok-pairs.pairs in
-    let told = c.in-ok-pairs.ensures in
+pub compare_parts-requires : goal.compare_parts-requires
+compare_parts-requires g c =
+    let k = c.in_ok-pairs.pairs in
+    let told = c.in_ok-pairs.ensures in
     let is : k - 0 ≡ out_count c.args.first.now = omega (arith, told.0) in
     record {
       long = told.1.long;
@@ -52,37 +52,37 @@ compare-parts-requires g c =
       rows = omega (arith, c.if-rows-inputs.false, c.inputs.ensures);
     }
 
-pub returns-in-err-compare-parts : goal.returns-in-err-compare-parts
-returns-in-err-compare-parts g c =
-    let p = err_from_is_err_and c.from-residual-in-err-compare-parts.result c.from-residual-in-err-compare-parts.ensures.1 in
+pub returns-in_err-compare_parts : goal.returns-in_err-compare_parts
+returns-in_err-compare_parts g c =
+    let p = err_from_is_err_and c.from_residual-in_err-compare_parts.result c.from_residual-in_err-compare_parts.ensures.1 in
     let o = g.G.Algebra.ops in
     let n = room c.args.table.now in
     let s = view c.args.table.now in
-    let t = view c.compare-parts.new.table in
+    let t = view c.compare_parts.new.table in
     let P = g.M.Memo.recalls c.args.memo.now in
-    let Q = g.M.Memo.recalls c.compare-parts.new.memo in
+    let Q = g.M.Memo.recalls c.compare_parts.new.memo in
     let ls = c.args.first.now in
     let ms = c.args.second.now in
     let hs = c.args.handles.now in
-    let hs' = c.compare-parts.new.handles in
+    let hs' = c.compare_parts.new.handles in
     let cs = c.args.found.now in
-    let ds = c.compare-parts.new.found in
-    let k = c.in-ok-pairs.pairs in
-    let counted = c.in-ok-pairs.ensures in
+    let ds = c.compare_parts.new.found in
+    let k = c.in_ok-pairs.pairs in
+    let counted = c.in_ok-pairs.ensures in
     let ek : k - 0 ≡ out_count ls = omega (arith, counted.0) in
-    let e = c.in-err-compare-parts.field-0.0 in
-    let told = c.in-err-compare-parts.ensures in
-    let is : c.from-residual-in-err-compare-parts.result ≡ Err e = p.1 ∙ ap Err p.2 in
+    let e = c.in_err-compare_parts.field-0.0 in
+    let told = c.in_err-compare_parts.ensures in
+    let is : c.from_residual-in_err-compare_parts.result ≡ Err e = p.1 ∙ ap Err p.2 in
     let rows = length c.args.rows.now in
     let new = ds ++ post_of 0 (k - 0) cs in
     record {
       compared = subst (λ r. Compared o s t P Q rows ls ms hs hs' cs new r) (sym is)
           (begun_refused o s t P Q rows ls ms hs hs' cs new e
-          (begun o s t rows ls ms hs hs' cs ds (k - 0) ek c.compare-parts.auto.found counted.1 (Err e) (omega (arith, c.if-rows-inputs.false, c.inputs.ensures)) told.compared told.rest));
+          (begun o s t rows ls ms hs hs' cs ds (k - 0) ek c.compare_parts.auto.found counted.1 (Err e) (omega (arith, c.if-rows-inputs.false, c.inputs.ensures)) told.compared told.rest));
       room = told.room;
       kept = λ run kept.
           subst (λ r. Kept o n (compare_event ls ms hs' new r ∷ run) t Q) (sym is)
-          (rows_event_kept o s t rows ls ms hs hs' cs ds (k - 0) ek c.compare-parts.auto.found counted.1 n run Q (Err e) (told.kept run kept));
+          (rows_event_kept o s t rows ls ms hs hs' cs ds (k - 0) ek c.compare_parts.auto.found counted.1 n run Q (Err e) (told.kept run kept));
     }
 
 pub returns : goal.returns
@@ -90,21 +90,21 @@ returns g c =
     let o = g.G.Algebra.ops in
     let n = room c.args.table.now in
     let s = view c.args.table.now in
-    let t = view c.compare-parts.new.table in
-    let Q = g.M.Memo.recalls c.compare-parts.new.memo in
+    let t = view c.compare_parts.new.table in
+    let Q = g.M.Memo.recalls c.compare_parts.new.memo in
     let ls = c.args.first.now in
     let ms = c.args.second.now in
     let hs = c.args.handles.now in
-    let hs' = c.compare-parts.new.handles in
+    let hs' = c.compare_parts.new.handles in
     let cs = c.args.found.now in
-    let ds = c.compare-parts.new.found in
-    let k = c.in-ok-pairs.pairs in
-    let counted = c.in-ok-pairs.ensures in
+    let ds = c.compare_parts.new.found in
+    let k = c.in_ok-pairs.pairs in
+    let counted = c.in_ok-pairs.ensures in
     let ek : k - 0 ≡ out_count ls = omega (arith, counted.0) in
-    let told = c.in-ok-compare-parts.ensures in
+    let told = c.in_ok-compare_parts.ensures in
     let rows = length c.args.rows.now in
     record {
-      compared = (counted.0, begun o s t rows ls ms hs hs' cs ds (k - 0) ek c.compare-parts.auto.found counted.1 (Ok tt) (omega (arith, c.if-rows-inputs.false, c.inputs.ensures)) told.compared told.rest);
+      compared = (counted.0, begun o s t rows ls ms hs hs' cs ds (k - 0) ek c.compare_parts.auto.found counted.1 (Ok tt) (omega (arith, c.if-rows-inputs.false, c.inputs.ensures)) told.compared told.rest);
       room = told.room;
-      kept = λ run kept. rows_event_kept o s t rows ls ms hs hs' cs ds (k - 0) ek c.compare-parts.auto.found counted.1 n run Q (Ok tt) (told.kept run kept);
+      kept = λ run kept. rows_event_kept o s t rows ls ms hs hs' cs ds (k - 0) ek c.compare_parts.auto.found counted.1 n run Q (Ok tt) (told.kept run kept);
     }

@@ -14,9 +14,9 @@ use Rattle.comparison.specs.Compares.{parts_event, PartsCompared, no_pairs, pair
 use Rattle.comparison.proofs.Comparings.{first_ok, first_err, second_ok, second_err, laid_ok, laid_refused, refused_since, answers_all, one_laid, two_laid, front_first, back_first, rest_first, parts_moved, event_moved}
 use Rattle.comparison.proofs.comparing.compare_parts.Goals as goal
 
-pub returns-in-err-in-first : goal.returns-in-err-in-first
-returns-in-err-in-first g c =
-    let p = err_from_is_err_and c.from-residual.result c.from-residual.ensures.1 in
+pub returns-in_err-in_first : goal.returns-in_err-in_first
+returns-in_err-in_first g c =
+    let p = err_from_is_err_and c.from_residual.result c.from_residual.ensures.1 in
     let o = g.G.Algebra.ops in
     let n = room c.args.table.now in
     let s = view c.args.table.now in
@@ -35,26 +35,26 @@ returns-in-err-in-first g c =
     let old : take a xs ≡ take (a - 0) xs = ap (λ k. take k xs) (sym e0) in
     let H = hs ++ post_of 0 (a - 0) xs in
     let front : take a H ≡ hs = front_first a b (a - 0) xs hs e0 lu in
-    let err = first_err c.lay.result c.in-err-in-first.field-0.0 c.in-err-in-first.ensures in
+    let err = first_err c.lay.result c.in_err-in_first.field-0.0 c.in_err-in_first.ensures in
     let d = err.0 in
-    let is : c.from-residual.result ≡ Err (First d) = p.1 ∙ ap Err (p.2 ∙ err.2) in
+    let is : c.from_residual.result ≡ Err (First d) = p.1 ∙ ap Err (p.2 ∙ err.2) in
     record {
       compared =
-          parts_moved o s t ls ms (take a xs) (take (a - 0) xs) (take a H) hs (second_part ls ms xs) (second_part ls ms xs) (second_part ls ms H) (second_part ls ms xs) c.args.found.now c.args.found.now c.from-residual.result old front refl (back_first a b (a - 0) xs hs e0 lu)
+          parts_moved o s t ls ms (take a xs) (take (a - 0) xs) (take a H) hs (second_part ls ms xs) (second_part ls ms xs) (second_part ls ms H) (second_part ls ms xs) c.args.found.now c.args.found.now c.from_residual.result old front refl (back_first a b (a - 0) xs hs e0 lu)
           (subst (λ r. PartsCompared o s t ls ms (take (a - 0) xs) hs (second_part ls ms xs) (second_part ls ms xs) c.args.found.now c.args.found.now r) (sym is)
           (laid_refused o s t P Q (length c.args.rows.now) ls (take (a - 0) xs) hs long c.requires.rows c.lay.result d err.1 c.lay.ensures.laid, refl, refl));
       rest = rest_first a b (a - 0) xs hs e0 lu;
       room = c.lay.ensures.room;
       kept = λ run kept.
-          event_moved o n t Q run ls ms (take a H) hs (second_part ls ms H) (second_part ls ms H) c.args.found.now c.from-residual.result front refl
+          event_moved o n t Q run ls ms (take a H) hs (second_part ls ms H) (second_part ls ms H) c.args.found.now c.from_residual.result front refl
           (subst (λ r. Kept o n (parts_event ls ms hs (second_part ls ms H) c.args.found.now r ∷ run) t Q) (sym is)
           (one_laid g.G.Algebra.laws (well c.lay.new.table.well) n Q run ls ms (lay_answers ls hs (Err d))
           (subst (λ r. Kept o n (lay ls (lay_answers ls hs r) ∷ run) t Q) err.1 (c.lay.ensures.kept run kept))));
     }
 
-pub returns-in-err-in-second : goal.returns-in-err-in-second
-returns-in-err-in-second g c =
-    let p = err_from_is_err_and c.from-residual-in-err-in-second.result c.from-residual-in-err-in-second.ensures.1 in
+pub returns-in_err-in_second : goal.returns-in_err-in_second
+returns-in_err-in_second g c =
+    let p = err_from_is_err_and c.from_residual-in_err-in_second.result c.from_residual-in_err-in_second.ensures.1 in
     let o = g.G.Algebra.ops in
     let n = room c.args.table.now in
     let s = view c.args.table.now in
@@ -82,12 +82,12 @@ returns-in-err-in-second g c =
     let H = put_mid a (a + b - a) mid ks in
     let front : take a H ≡ hs = ap (λ k. take k H) (sym e0) ∙ front_part a b (a - 0) (a + b - a) xs hs ks e0 e1 lu lv in
     let back : take b (drop a H) ≡ ks = ap (λ k. take k (drop a H)) (sym e1) ∙ back_part a b (a - 0) (a + b - a) xs hs ks e0 e1 lu lv in
-    let one = first_ok c.lay.result c.in-ok-in-first.field-0 c.in-ok-in-first.ensures in
+    let one = first_ok c.lay.result c.in_ok-in_first.field-0 c.in_ok-in_first.ensures in
     let first = laid_ok o s t P Q (length c.args.rows.now) ls (take (a - 0) xs) hs long c.requires.rows c.lay.result one c.lay.ensures.laid in
     let enough : t.inputs < length c.lay.new.rows = (let e = first.1.inputs in omega (arith, c.requires.rows, c.lay.auto.rows)) in
-    let err = second_err c.lay-2.result c.in-err-in-second.field-0.0 c.in-err-in-second.ensures in
+    let err = second_err c.lay-2.result c.in_err-in_second.field-0.0 c.in_err-in_second.ensures in
     let d = err.0 in
-    let r = c.from-residual-in-err-in-second.result in
+    let r = c.from_residual-in_err-in_second.result in
     let is : r ≡ Err (Second d) = p.1 ∙ ap Err (p.2 ∙ err.2) in
     record {
       compared =
@@ -108,8 +108,8 @@ returns-in-err-in-second g c =
           (answers_all ls hs c.lay.result one lu) c.lay.ensures.kept c.lay-2.ensures.kept run kept)));
     }
 
-pub check-pairs-requires : goal.check-pairs-requires
-check-pairs-requires g c =
+pub check_pairs-requires : goal.check_pairs-requires
+check_pairs-requires g c =
     let o = g.G.Algebra.ops in
     let n = room c.args.table.now in
     let s = view c.args.table.now in
@@ -137,10 +137,10 @@ check-pairs-requires g c =
     let H = put_mid a (a + b - a) mid ks in
     let front : take a H ≡ hs = ap (λ k. take k H) (sym e0) ∙ front_part a b (a - 0) (a + b - a) xs hs ks e0 e1 lu lv in
     let back : take b (drop a H) ≡ ks = ap (λ k. take k (drop a H)) (sym e1) ∙ back_part a b (a - 0) (a + b - a) xs hs ks e0 e1 lu lv in
-    let one = first_ok c.lay.result c.in-ok-in-first.field-0 c.in-ok-in-first.ensures in
+    let one = first_ok c.lay.result c.in_ok-in_first.field-0 c.in_ok-in_first.ensures in
     let first = laid_ok o s t P Q (length c.args.rows.now) ls (take (a - 0) xs) hs long c.requires.rows c.lay.result one c.lay.ensures.laid in
     let enough : t.inputs < length c.lay.new.rows = (let e = first.1.inputs in omega (arith, c.requires.rows, c.lay.auto.rows)) in
-    let two = second_ok c.lay-2.result c.in-ok-in-second.field-0 c.in-ok-in-second.ensures in
+    let two = second_ok c.lay-2.result c.in_ok-in_second.field-0 c.in_ok-in_second.ensures in
     let second = laid_ok o t u Q R (length c.lay.new.rows) ms (take (a + b - a) (drop a mid)) ks long2 enough c.lay-2.result two c.lay-2.ensures.laid in
     record {
       left = ap length (front_part a b (a - 0) (a + b - a) xs hs ks e0 e1 lu lv) ∙ lu;
@@ -150,9 +150,9 @@ check-pairs-requires g c =
       rows = let e = second.1.inputs in omega (arith, enough, c.lay-2.auto.rows);
     }
 
-pub returns-in-err-check-pairs : goal.returns-in-err-check-pairs
-returns-in-err-check-pairs g c =
-    let p = err_from_is_err_and c.from-residual-in-err-check-pairs.result c.from-residual-in-err-check-pairs.ensures.1 in
+pub returns-in_err-check_pairs : goal.returns-in_err-check_pairs
+returns-in_err-check_pairs g c =
+    let p = err_from_is_err_and c.from_residual-in_err-check_pairs.result c.from_residual-in_err-check_pairs.ensures.1 in
     let o = g.G.Algebra.ops in
     let n = room c.args.table.now in
     let s = view c.args.table.now in
@@ -180,12 +180,12 @@ returns-in-err-check-pairs g c =
     let H = put_mid a (a + b - a) mid ks in
     let front : take a H ≡ hs = ap (λ k. take k H) (sym e0) ∙ front_part a b (a - 0) (a + b - a) xs hs ks e0 e1 lu lv in
     let back : take b (drop a H) ≡ ks = ap (λ k. take k (drop a H)) (sym e1) ∙ back_part a b (a - 0) (a + b - a) xs hs ks e0 e1 lu lv in
-    let one = first_ok c.lay.result c.in-ok-in-first.field-0 c.in-ok-in-first.ensures in
+    let one = first_ok c.lay.result c.in_ok-in_first.field-0 c.in_ok-in_first.ensures in
     let first = laid_ok o s t P Q (length c.args.rows.now) ls (take (a - 0) xs) hs long c.requires.rows c.lay.result one c.lay.ensures.laid in
     let enough : t.inputs < length c.lay.new.rows = (let e = first.1.inputs in omega (arith, c.requires.rows, c.lay.auto.rows)) in
-    let v = view c.check-pairs.new.table in
-    let S = g.M.Memo.recalls c.check-pairs.new.memo in
-    let two = second_ok c.lay-2.result c.in-ok-in-second.field-0 c.in-ok-in-second.ensures in
+    let v = view c.check_pairs.new.table in
+    let S = g.M.Memo.recalls c.check_pairs.new.memo in
+    let two = second_ok c.lay-2.result c.in_ok-in_second.field-0 c.in_ok-in_second.ensures in
     let second = laid_ok o t u Q R (length c.lay.new.rows) ms (take (a + b - a) (drop a mid)) ks long2 enough c.lay-2.result two c.lay-2.ensures.laid in
     let grows = grows_trans first.1 second.1 in
     let same = c.lay-2.ensures.room ∙ c.lay.ensures.room in
@@ -195,12 +195,12 @@ returns-in-err-check-pairs g c =
     (two_laid g.G.Algebra.laws (well c.lay-2.new.table.well) n (room c.lay.new.table) c.lay.ensures.room P Q R ls ms hs (lay_answers ls hs c.lay.result) (lay_answers ms ks c.lay-2.result)
     (answers_all ls hs c.lay.result one lu) c.lay.ensures.kept c.lay-2.ensures.kept run kept) in
     let none = ap (λ k. first_fault o k 0 ms) (sym first.1.inputs) ∙ second.0 in
-    let cs = c.check-pairs.new.found in
+    let cs = c.check_pairs.new.found in
     let isl : take (a - 0) H ≡ hs = front_part a b (a - 0) (a + b - a) xs hs ks e0 e1 lu lv in
     let isr : take (a + b - a) (drop a H) ≡ ks = back_part a b (a - 0) (a + b - a) xs hs ks e0 e1 lu lv in
-    let e = c.in-err-check-pairs.field-0.0 in
-    let pairs = c.in-err-check-pairs.ensures in
-    let r = c.from-residual-in-err-check-pairs.result in
+    let e = c.in_err-check_pairs.field-0.0 in
+    let pairs = c.in_err-check_pairs.ensures in
+    let r = c.from_residual-in_err-check_pairs.result in
     let is : r ≡ Err (Pair e) = p.1 ∙ ap Err p.2 in
     record {
       compared =
@@ -247,12 +247,12 @@ returns g c =
     let H = put_mid a (a + b - a) mid ks in
     let front : take a H ≡ hs = ap (λ k. take k H) (sym e0) ∙ front_part a b (a - 0) (a + b - a) xs hs ks e0 e1 lu lv in
     let back : take b (drop a H) ≡ ks = ap (λ k. take k (drop a H)) (sym e1) ∙ back_part a b (a - 0) (a + b - a) xs hs ks e0 e1 lu lv in
-    let one = first_ok c.lay.result c.in-ok-in-first.field-0 c.in-ok-in-first.ensures in
+    let one = first_ok c.lay.result c.in_ok-in_first.field-0 c.in_ok-in_first.ensures in
     let first = laid_ok o s t P Q (length c.args.rows.now) ls (take (a - 0) xs) hs long c.requires.rows c.lay.result one c.lay.ensures.laid in
     let enough : t.inputs < length c.lay.new.rows = (let e = first.1.inputs in omega (arith, c.requires.rows, c.lay.auto.rows)) in
-    let v = view c.check-pairs.new.table in
-    let S = g.M.Memo.recalls c.check-pairs.new.memo in
-    let two = second_ok c.lay-2.result c.in-ok-in-second.field-0 c.in-ok-in-second.ensures in
+    let v = view c.check_pairs.new.table in
+    let S = g.M.Memo.recalls c.check_pairs.new.memo in
+    let two = second_ok c.lay-2.result c.in_ok-in_second.field-0 c.in_ok-in_second.ensures in
     let second = laid_ok o t u Q R (length c.lay.new.rows) ms (take (a + b - a) (drop a mid)) ks long2 enough c.lay-2.result two c.lay-2.ensures.laid in
     let grows = grows_trans first.1 second.1 in
     let same = c.lay-2.ensures.room ∙ c.lay.ensures.room in
@@ -262,10 +262,10 @@ returns g c =
     (two_laid g.G.Algebra.laws (well c.lay-2.new.table.well) n (room c.lay.new.table) c.lay.ensures.room P Q R ls ms hs (lay_answers ls hs c.lay.result) (lay_answers ms ks c.lay-2.result)
     (answers_all ls hs c.lay.result one lu) c.lay.ensures.kept c.lay-2.ensures.kept run kept) in
     let none = ap (λ k. first_fault o k 0 ms) (sym first.1.inputs) ∙ second.0 in
-    let cs = c.check-pairs.new.found in
+    let cs = c.check_pairs.new.found in
     let isl : take (a - 0) H ≡ hs = front_part a b (a - 0) (a + b - a) xs hs ks e0 e1 lu lv in
     let isr : take (a + b - a) (drop a H) ≡ ks = back_part a b (a - 0) (a + b - a) xs hs ks e0 e1 lu lv in
-    let pairs = c.in-ok-check-pairs.ensures in
+    let pairs = c.in_ok-check_pairs.ensures in
     record {
       compared =
           parts_moved o s v ls ms (take a xs) (take (a - 0) xs) (take a H) hs (second_part ls ms xs) (take (a + b - a) (drop a mid)) (second_part ls ms H) ks c.args.found.now cs (Ok tt) old front old2 back

@@ -22,45 +22,45 @@ pub loop-pair-init : goal.loop-pair-init
 loop-pair-init g c =
     (checking_none g.G.Algebra.ops (room c.args.table.now) (view c.args.table.now) (g.M.Memo.recalls c.args.memo.now) c.args.first.now c.args.second.now c.args.left.now c.args.right.now c.args.found.now, refl)
 
-pub next-out-x-requires : goal.next-out-x-requires
-next-out-x-requires g c = c.loop-pair.invariant.0.left_inside
+pub next_out-x-requires : goal.next_out-x-requires
+next_out-x-requires g c = c.loop-pair.invariant.0.left_inside
 
-pub next-out-y-requires : goal.next-out-y-requires
-next-out-y-requires g c = c.loop-pair.invariant.0.right_inside
+pub next_out-y-requires : goal.next_out-y-requires
+next_out-y-requires g c = c.loop-pair.invariant.0.right_inside
 
 pub bounds-left-x : goal.bounds-left-x
 bounds-left-x g c =
     let inv = c.loop-pair.invariant.0 in
-    let inside = out_inside c.args.first.now c.args.left.now c.requires.left c.loop-pair.pair c.next-out-x.result (omega (arith, c.loop-pair-test.true, c.requires.room)) (sym (c.next-out-x.ensures.skipped c.args.left.now c.requires.left) ∙ inv.left_rest) in
+    let inside = out_inside c.args.first.now c.args.left.now c.requires.left c.loop-pair.pair c.next_out-x.result (omega (arith, c.loop-pair-test.true, c.requires.room)) (sym (c.next_out-x.ensures.skipped c.args.left.now c.requires.left) ∙ inv.left_rest) in
     omega (arith, c.requires.left)
 
 pub bounds-right-y : goal.bounds-right-y
 bounds-right-y g c =
     let inv = c.loop-pair.invariant.0 in
-    let inside = out_inside c.args.second.now c.args.right.now c.requires.right c.loop-pair.pair c.next-out-y.result (omega (arith, c.loop-pair-test.true, c.requires.room, c.requires.even)) (sym (c.next-out-y.ensures.skipped c.args.right.now c.requires.right) ∙ inv.right_rest) in
+    let inside = out_inside c.args.second.now c.args.right.now c.requires.right c.loop-pair.pair c.next_out-y.result (omega (arith, c.loop-pair-test.true, c.requires.room, c.requires.even)) (sym (c.next_out-y.ensures.skipped c.args.right.now c.requires.right) ∙ inv.right_rest) in
     omega (arith, c.requires.right)
 
-pub returns-in-err-checked : goal.returns-in-err-checked
-returns-in-err-checked g c =
-    let p = err_from_is_err_and c.from-residual.result c.from-residual.ensures.1 in
+pub returns-in_err-checked : goal.returns-in_err-checked
+returns-in_err-checked g c =
+    let p = err_from_is_err_and c.from_residual.result c.from_residual.ensures.1 in
     let o = g.G.Algebra.ops in
     let ls = c.args.first.now in
     let ms = c.args.second.now in
     let hs = c.args.left.now in
     let ks = c.args.right.now in
     let k = c.loop-pair.pair in
-    let x = c.next-out-x.result in
-    let y = c.next-out-y.result in
+    let x = c.next_out-x.result in
+    let y = c.next_out-y.result in
     let inv = c.loop-pair.invariant in
     let inside : k < out_count ls = omega (arith, c.loop-pair-test.true, c.requires.room) in
     let due : PairDue ls ms hs ks c.loop-pair.found k = record { left = c.requires.left; right = c.requires.right; even = c.requires.even; inside = inside; rows = c.loop-pair.auto.found ∙ c.requires.room } in
-    let left = out_at ls hs c.requires.left k c.loop-pair.from-left x inside inv.0.left_rest (c.next-out-x.ensures.skipped hs c.requires.left) c.next-out-x.ensures.found in
-    let right = out_at ms ks c.requires.right k c.loop-pair.from-right y (omega (arith, inside, c.requires.even)) inv.0.right_rest (c.next-out-y.ensures.skipped ks c.requires.right) c.next-out-y.ensures.found in
+    let left = out_at ls hs c.requires.left k c.loop-pair.from_left x inside inv.0.left_rest (c.next_out-x.ensures.skipped hs c.requires.left) c.next_out-x.ensures.found in
+    let right = out_at ms ks c.requires.right k c.loop-pair.from_right y (omega (arith, inside, c.requires.even)) inv.0.right_rest (c.next_out-y.ensures.skipped ks c.requires.right) c.next_out-y.ensures.found in
     let told = c.check.ensures in
     let fits = subst (λ n. (view c.check.new.table).used ≤ n) told.room told.fits in
-    let e = c.in-err-checked.field-0.0 in
-    let err = pair_err c.check.result k e c.in-err-checked.ensures in
-    let is : c.from-residual.result ≡ Err (record { pair = k; fault = e.fault }) = p.1 ∙ ap Err (p.2 ∙ err.1) in
+    let e = c.in_err-checked.field-0.0 in
+    let err = pair_err c.check.result k e c.in_err-checked.ensures in
+    let is : c.from_residual.result ≡ Err (record { pair = k; fault = e.fault }) = p.1 ∙ ap Err (p.2 ∙ err.1) in
     record {
       checked = subst (λ r. PairsChecked g.G.Algebra.ops (view c.args.table.now) (view c.check.new.table) (c.args.left.now ++ c.args.right.now) c.args.found.now c.loop-pair.found r) (sym is)
           (refused_leaves g.G.Algebra.laws inv.0 due (well c.loop-pair.table.well) (view c.check.new.table) (well c.check.new.table.well) (room c.loop-pair.table) inv.1 fits (g.M.Memo.recalls c.check.new.memo) (length c.loop-pair.rows) x y left right (omega (arith, c.requires.rows, c.loop-pair.auto.rows)) e.fault c.check.result err.0 told.shape c.requires.room);
@@ -78,17 +78,17 @@ loop-pair-preserved g c =
     let hs = c.args.left.now in
     let ks = c.args.right.now in
     let k = c.loop-pair.pair in
-    let x = c.next-out-x.result in
-    let y = c.next-out-y.result in
+    let x = c.next_out-x.result in
+    let y = c.next_out-y.result in
     let inv = c.loop-pair.invariant in
     let inside : k < out_count ls = omega (arith, c.loop-pair-test.true, c.requires.room) in
     let due : PairDue ls ms hs ks c.loop-pair.found k = record { left = c.requires.left; right = c.requires.right; even = c.requires.even; inside = inside; rows = c.loop-pair.auto.found ∙ c.requires.room } in
-    let left = out_at ls hs c.requires.left k c.loop-pair.from-left x inside inv.0.left_rest (c.next-out-x.ensures.skipped hs c.requires.left) c.next-out-x.ensures.found in
-    let right = out_at ms ks c.requires.right k c.loop-pair.from-right y (omega (arith, inside, c.requires.even)) inv.0.right_rest (c.next-out-y.ensures.skipped ks c.requires.right) c.next-out-y.ensures.found in
+    let left = out_at ls hs c.requires.left k c.loop-pair.from_left x inside inv.0.left_rest (c.next_out-x.ensures.skipped hs c.requires.left) c.next_out-x.ensures.found in
+    let right = out_at ms ks c.requires.right k c.loop-pair.from_right y (omega (arith, inside, c.requires.even)) inv.0.right_rest (c.next_out-y.ensures.skipped ks c.requires.right) c.next_out-y.ensures.found in
     let told = c.check.ensures in
     let fits = subst (λ n. (view c.check.new.table).used ≤ n) told.room told.fits in
-    let d = c.in-ok-checked.checked in (
-      checked_more g.G.Algebra.laws inv.0 due (well c.loop-pair.table.well) (view c.check.new.table) (well c.check.new.table.well) (room c.loop-pair.table) inv.1 fits (g.M.Memo.recalls c.check.new.memo) (length c.loop-pair.rows) x y left right d c.check.result (pair_ok c.check.result k d c.in-ok-checked.ensures) told.shape told.meaning told.found,
+    let d = c.in_ok-checked.checked in (
+      checked_more g.G.Algebra.laws inv.0 due (well c.loop-pair.table.well) (view c.check.new.table) (well c.check.new.table.well) (room c.loop-pair.table) inv.1 fits (g.M.Memo.recalls c.check.new.memo) (length c.loop-pair.rows) x y left right d c.check.result (pair_ok c.check.result k d c.in_ok-checked.ensures) told.shape told.meaning told.found,
       told.room ∙ inv.1,
     )
 

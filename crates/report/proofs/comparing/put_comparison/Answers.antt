@@ -22,9 +22,9 @@ returns-in-Ok-compare g c =
     (ap (λ z. z.inputs) started.outcome.table) c.requires.handles c.requires.first (let h = c.requires.inputs in let k = c.requires.rows in omega arith)
     c.compare.auto.handles c.compare.auto.found started.room (started.kept o) (Ok pairs) done.compared done.kept in
     record {
-      text = written_as _ _ 0 c.args.out.now c.put-report.new.out c.put-report.result
+      text = written_as _ _ 0 c.args.out.now c.put_report.new.out c.put_report.result
           (rows_cut o.letter n pairs used (pairs - 0) c.used-used.result cs (omega arith) c.used-used.ensures (let h = few_outs ls in let e = comes.0 in let f = c.requires.first in let k = c.compare.auto.found in omega arith) ∙ sym comes.1)
-          c.put-report.ensures;
+          c.put_report.ensures;
       room = done.room ∙ started.room;
     }
 
@@ -38,6 +38,6 @@ returns-in-Err g c =
     (ap (λ z. z.inputs) started.outcome.table) c.requires.handles c.requires.first (let h = c.requires.inputs in let k = c.requires.rows in omega arith)
     c.compare.auto.handles c.compare.auto.found started.room (started.kept o) (Err c.in-Err.fault) done.compared done.kept in
     record {
-      text = written_as _ _ 0 c.args.out.now c.put-compare-fault.new.out c.put-compare-fault.result (sym comes) c.put-compare-fault.ensures;
+      text = written_as _ _ 0 c.args.out.now c.put_compare_fault.new.out c.put_compare_fault.result (sym comes) c.put_compare_fault.ensures;
       room = done.room ∙ started.room;
     }

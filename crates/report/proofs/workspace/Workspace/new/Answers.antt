@@ -1,17 +1,17 @@
 use Rattle.std.proofs.lemmas.Result.{IfOk-from_err}
 use Rattle.report.proofs.workspace.Workspace.new.Goals as goal
 
-pub returns-in-err-first : goal.returns-in-err-first
-returns-in-err-first c = IfOk-from_err _ _ c.from-residual-in-err-first.ensures.0
+pub returns-in_err-first : goal.returns-in_err-first
+returns-in_err-first c = IfOk-from_err _ _ c.from_residual-in_err-first.ensures.0
 
-pub returns-in-err-second : goal.returns-in-err-second
-returns-in-err-second c = IfOk-from_err _ _ c.from-residual-in-err-second.ensures.0
+pub returns-in_err-second : goal.returns-in_err-second
+returns-in_err-second c = IfOk-from_err _ _ c.from_residual-in_err-second.ensures.0
 
-pub returns-in-err-handles : goal.returns-in-err-handles
-returns-in-err-handles c = IfOk-from_err _ _ c.from-residual-in-err-handles.ensures.0
+pub returns-in_err-handles : goal.returns-in_err-handles
+returns-in_err-handles c = IfOk-from_err _ _ c.from_residual-in_err-handles.ensures.0
 
-pub returns-in-err-found : goal.returns-in-err-found
-returns-in-err-found c = IfOk-from_err _ _ c.from-residual-in-err-found.ensures.0
+pub returns-in_err-found : goal.returns-in_err-found
+returns-in_err-found c = IfOk-from_err _ _ c.from_residual-in_err-found.ensures.0
 
-pub returns-in-err-findings : goal.returns-in-err-findings
-returns-in-err-findings c = IfOk-from_err _ _ c.from-residual-in-err-findings.ensures.0
+pub returns-in_err-findings : goal.returns-in_err-findings
+returns-in_err-findings c = IfOk-from_err _ _ c.from_residual-in_err-findings.ensures.0
