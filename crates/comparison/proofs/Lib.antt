@@ -1,3 +1,4 @@
 pub mod Pairings
 pub mod Comparings
 pub mod Reruns
+pub mod Erased

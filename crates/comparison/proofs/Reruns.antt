@@ -20,7 +20,7 @@ use Rattle.laying.specs.Lays.{Laid}
 use Rattle.comparison.specs.Compares.{Compared, Unchanged, LineRefused}
 use Rattle.comparison.specs.declared.replaying.Call.{Call}
 use Rattle.comparison.specs.declared.replaying.Told.{Told}
-use Rattle.comparison.specs.Replays.{handles_for, rows_for, State, state, Called, Replayed, none, more, Ran}
+use Rattle.comparison.specs.States.{handles_for, rows_for, State, state, Called, ReplayedFrom, none, more, RanFrom}
 
 take_min : {X : Type 0} (xs : List X) (c n m : ℕ) → n ≡ length xs → m ≡ min c n → take m xs ≡ take c xs
 take_min xs c n m e f =
@@ -99,7 +99,7 @@ pub record Running (o : Ops) (room n work : ℕ) (ls : List Line) (cs : List Cal
   pub memo : Pairs
   pub emptied : NoPairs memo
   pub run : Run
-  pub replayed : Replayed o work ls (state (store n []) memo hs₀ fs₀) (take i cs) (take i new) run (take next hs) (take row fs) (state t Q (drop next hs) (drop row fs))
+  pub replayed : ReplayedFrom o work ls (state (store n []) memo hs₀ fs₀) (take i cs) (take i new) run (take next hs) (take row fs) (state t Q (drop next hs) (drop row fs))
   pub kept : Kept o room run t Q
   pub inputs : t.inputs ≡ n
   pub rest : drop i new ≡ drop i old
@@ -115,7 +115,7 @@ running_none o room n work ls cs t Q hs fs old kept is emptied =
       memo = Q;
       emptied = emptied;
       run = [];
-      replayed = subst (λ s. Replayed o work ls (state (store n []) Q hs fs) [] [] [] [] [] (state s Q hs fs)) (sym is) none;
+      replayed = subst (λ s. ReplayedFrom o work ls (state (store n []) Q hs fs) [] [] [] [] [] (state s Q hs fs)) (sym is) none;
       kept = kept;
       inputs = ap (λ s. s.inputs) is;
       rest = refl;
@@ -148,14 +148,14 @@ module _ {o : Ops} {room n work : ℕ} {ls : List Line} {cs : List Call} {hs₀ 
         emptied = running.emptied;
         run = e ∷ running.run;
         replayed =
-            subst (λ z. Replayed o work ls start z (take (i + 1) (set new i a)) (e ∷ running.run) (take next' hsN) (take row' fsN) (state u R (drop next' hsN) (drop row' fsN)))
+            subst (λ z. ReplayedFrom o work ls start z (take (i + 1) (set new i a)) (e ∷ running.run) (take next' hsN) (take row' fsN) (state u R (drop next' hsN) (drop row' fsN)))
             (sym (take_more cs i c h ∙ ap (λ x. take i cs ++ x ∷ []) (sym here)))
-            (subst (λ z. Replayed o work ls start (take i cs ++ c ∷ []) z (e ∷ running.run) (take next' hsN) (take row' fsN) (state u R (drop next' hsN) (drop row' fsN)))
+            (subst (λ z. ReplayedFrom o work ls start (take i cs ++ c ∷ []) z (e ∷ running.run) (take next' hsN) (take row' fsN) (state u R (drop next' hsN) (drop row' fsN)))
             (sym (take_more_set new i a k))
-            (subst (λ z. Replayed o work ls start (take i cs ++ c ∷ []) (take i new ++ a ∷ []) (e ∷ running.run) z (take row' fsN) (state u R (drop next' hsN) (drop row' fsN))) (sym handles.front)
-            (subst (λ z. Replayed o work ls start (take i cs ++ c ∷ []) (take i new ++ a ∷ []) (e ∷ running.run) (take next hs ++ take (handles_for ls c) hs') z (state u R (drop next' hsN) (drop row' fsN))) (sym found.front)
-            (subst (λ z. Replayed o work ls start (take i cs ++ c ∷ []) (take i new ++ a ∷ []) (e ∷ running.run) (take next hs ++ take (handles_for ls c) hs') (take row fs ++ take (rows_for ls c) fs') (state u R z (drop row' fsN))) (sym handles.back)
-            (subst (λ z. Replayed o work ls start (take i cs ++ c ∷ []) (take i new ++ a ∷ []) (e ∷ running.run) (take next hs ++ take (handles_for ls c) hs') (take row fs ++ take (rows_for ls c) fs') (state u R (drop (handles_for ls c) hs') z)) (sym found.back)
+            (subst (λ z. ReplayedFrom o work ls start (take i cs ++ c ∷ []) (take i new ++ a ∷ []) (e ∷ running.run) z (take row' fsN) (state u R (drop next' hsN) (drop row' fsN))) (sym handles.front)
+            (subst (λ z. ReplayedFrom o work ls start (take i cs ++ c ∷ []) (take i new ++ a ∷ []) (e ∷ running.run) (take next hs ++ take (handles_for ls c) hs') z (state u R (drop next' hsN) (drop row' fsN))) (sym found.front)
+            (subst (λ z. ReplayedFrom o work ls start (take i cs ++ c ∷ []) (take i new ++ a ∷ []) (e ∷ running.run) (take next hs ++ take (handles_for ls c) hs') (take row fs ++ take (rows_for ls c) fs') (state u R z (drop row' fsN))) (sym handles.back)
+            (subst (λ z. ReplayedFrom o work ls start (take i cs ++ c ∷ []) (take i new ++ a ∷ []) (e ∷ running.run) (take next hs ++ take (handles_for ls c) hs') (take row fs ++ take (rows_for ls c) fs') (state u R (drop (handles_for ls c) hs') z)) (sym found.back)
             made)))));
         kept = called.2 running.run running.kept;
         inputs = inputs ∙ running.inputs;
@@ -174,7 +174,7 @@ left : {X : Type 0} (first xs : List X) (k : ℕ) → k ≤ length xs → drop k
 left first xs k within same = same ∙ ap (λ m. drop m first) (sym (length-take-le k xs within))
 
 pub running_all : {o : Ops} {room n work : ℕ} {ls : List Line} {cs : List Call} {old : List Told} {t : Store} {Q : Pairs} {hs : List ℕ} {fs : List Checked} {new : List Told} {i next row : ℕ} (s : State)
-    → Running o room n work ls cs s.handles s.found old t Q hs fs new i next row → i ≡ length cs → Ran o room n work ls cs s (state t Q hs fs) old new
+    → Running o room n work ls cs s.handles s.found old t Q hs fs new i next row → i ≡ length cs → RanFrom o room n work ls cs s (state t Q hs fs) old new
 running_all {o} {room} {n} {work} {ls} {cs} {old} {t} {Q} {hs} {fs} {new} {i} {next} {row} s running end =
     let start = state (store n []) running.memo s.handles s.found in
     let run = running.run in
@@ -187,10 +187,10 @@ running_all {o} {room} {n} {work} {ls} {cs} {old} {t} {Q} {hs} {fs} {new} {i} {n
       taken_handles = own;
       taken_rows = rows;
       replayed =
-          subst (λ k. Replayed o work ls start cs (take k new) run own rows (state t Q (drop (length own) s.handles) (drop (length rows) s.found))) end
-          (subst (λ z. Replayed o work ls start z (take i new) run own rows (state t Q (drop (length own) s.handles) (drop (length rows) s.found))) (take_all i cs (omega arith))
-          (subst (λ z. Replayed o work ls start (take i cs) (take i new) run own rows (state t Q z (drop (length rows) s.found))) (left s.handles hs next running.next_in running.handles)
-          (subst (λ z. Replayed o work ls start (take i cs) (take i new) run own rows (state t Q (drop next hs) z)) (left s.found fs row running.row_in running.found)
+          subst (λ k. ReplayedFrom o work ls start cs (take k new) run own rows (state t Q (drop (length own) s.handles) (drop (length rows) s.found))) end
+          (subst (λ z. ReplayedFrom o work ls start z (take i new) run own rows (state t Q (drop (length own) s.handles) (drop (length rows) s.found))) (take_all i cs (omega arith))
+          (subst (λ z. ReplayedFrom o work ls start (take i cs) (take i new) run own rows (state t Q z (drop (length rows) s.found))) (left s.handles hs next running.next_in running.handles)
+          (subst (λ z. ReplayedFrom o work ls start (take i cs) (take i new) run own rows (state t Q (drop next hs) z)) (left s.found fs row running.row_in running.found)
           running.replayed)));
       handles = split s.handles hs next running.next_in running.handles;
       rows = split s.found fs row running.row_in running.found;

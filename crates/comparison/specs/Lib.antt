@@ -1,2 +1,3 @@
 pub mod Compares
 pub mod Replays
+pub mod States

@@ -1,16 +1,13 @@
--- What a list of calls on a started table comes to: each call's own contract, and a run of which the law holds. Assumes
--- nothing.
-use Rattle.std.specs.Prelude.{◌≡◌, ℕ, ◌+◌, ◌<◌, ◌≤◌, List, [], ◌∷◌, ◌++◌, length, take, drop, Some, Ok, Err, Result}
+-- What a list of calls on a started table comes to: a run of which the law holds. Assumes nothing.
+use Rattle.std.specs.Prelude.{◌≡◌, ℕ, ◌<◌, ◌≤◌, List, [], ◌∷◌, ◌++◌, length, take, drop, Some, Ok, Err, Result}
 use Rattle.algebra.specs.Ops.{Ops}
 use Rattle.netlist.specs.declared.line.Line.{Line}
 use Rattle.records.specs.declared.fault.TableFault.{TableFault}
-use Rattle.netlist.specs.Lines.{out_count}
-use Rattle.records.specs.Stores.{Store, store}
-use Rattle.memo.specs.Memos.{Pairs, NoPairs}
-use Rattle.records.specs.Faults.{table_fault_number, start_refusal, input_refusal, constant_refusal, turn_refusal, join_refusal}
-use Rattle.records.specs.Outcomes.{Shape}
+use Rattle.records.specs.Stores.{Store}
+use Rattle.memo.specs.Memos.{Pairs}
+use Rattle.records.specs.Faults.{table_fault_number, start_refusal}
 use Rattle.records.specs.Runs as runs
-use Rattle.records.specs.Runs.{Run, Event, Provided, Found, Kept, answer_of, given}
+use Rattle.records.specs.Runs.{Run, Event, Given, Provided, Found, Kept, answer_of}
 use Rattle.checking.specs.declared.checking.Checked.{Checked}
 use Rattle.faults.specs.declared.fault.LayFault.{LayFault}
 use Rattle.faults.specs.declared.fault.CompareFault.{CompareFault}
@@ -21,9 +18,9 @@ use Rattle.comparison.specs.declared.replaying.Told.{Told}
 use Rattle.comparison.specs.declared.replaying.Told.TheVariants as tolds
 use Rattle.comparison.specs.declared.replaying.ReplayFault.{ReplayFault}
 use Rattle.comparison.specs.declared.replaying.ReplayFault.TheVariants.{ShortList, Table}
-use Rattle.checking.specs.Checks.{handle_of, check_event}
-use Rattle.laying.specs.Lays.{Laid, lay_answers}
-use Rattle.comparison.specs.Compares.{Compared, compare_event}
+use Rattle.checking.specs.Checks.{handle_of, finding_of}
+use Rattle.laying.specs.Lays.{lay_answers}
+use Rattle.comparison.specs.Compares.{compare_event}
 
 abbrev pub replay_fault_number : ReplayFault → ℕ
 replay_fault_number ShortList = 27
@@ -33,99 +30,37 @@ replay_fault_number (Table f) = table_fault_number f
 abbrev pub span_of : List Line → Span → List Line
 span_of ls s = take s.count (drop s.from ls)
 
--- how many entries of the handle list and how many rows for findings a call takes, or as many as are left: a handle for each
--- of its lines, and a row for each OUT line of the first netlist
-abbrev pub handles_for : List Line → Call → ℕ
-handles_for ls (calls.Input i) = 0
-handles_for ls (calls.Constant v) = 0
-handles_for ls (calls.Turn x) = 0
-handles_for ls (calls.Join k x y) = 0
-handles_for ls (calls.Check x y) = 0
-handles_for ls (calls.Lay a) = length (span_of ls a)
-handles_for ls (calls.Compare a b) = length (span_of ls a) + length (span_of ls b)
+-- the event of a call and what it was told. What is said of a given handle is the table's, and the answers of lines and pairs
+-- are the handles and rows that the call left.
+pub data Made (ls : List Line) : Call → Told → Event → Type 0 where
+  input : (i : ℕ) (r : Result ℕ TableFault) → Made ls (calls.Input i) (tolds.Handle r) (runs.input i (answer_of r))
+  constant : (v : ℕ) (r : Result ℕ TableFault) → Made ls (calls.Constant v) (tolds.Handle r) (runs.constant v (answer_of r))
+  turn : (g : Given) (r : Result ℕ TableFault) → Made ls (calls.Turn g.number) (tolds.Handle r) (runs.turn g (answer_of r))
+  join : (k : ℕ) (g h : Given) (r : Result ℕ TableFault) → Made ls (calls.Join k g.number h.number) (tolds.Handle r) (runs.join k g h (answer_of r))
+  check : (g h : Given) (r : Result Checked TableFault) → Made ls (calls.Check g.number h.number) (tolds.Check r) (runs.check g h (answer_of (handle_of r)) (finding_of r))
+  lay : (s : Span) (hs : List ℕ) (r : Result (Unit {0}) LayFault) → Made ls (calls.Lay s) (tolds.Lay r) (runs.lay (span_of ls s) (lay_answers (span_of ls s) hs r))
+  compare : (s t : Span) (hs : List ℕ) (cs : List Checked) (r : Result ℕ CompareFault) → Made ls (calls.Compare s t) (tolds.Compare r) (compare_event (span_of ls s) (span_of ls t) hs cs r)
 
-abbrev pub rows_for : List Line → Call → ℕ
-rows_for ls (calls.Input i) = 0
-rows_for ls (calls.Constant v) = 0
-rows_for ls (calls.Turn x) = 0
-rows_for ls (calls.Join k x y) = 0
-rows_for ls (calls.Check x y) = 0
-rows_for ls (calls.Lay a) = 0
-rows_for ls (calls.Compare a b) = out_count (span_of ls a)
+-- the run of a list of calls and what each was told
+pub data Replayed (ls : List Line) : List Call → List Told → Run → Type 0 where
+  none : Replayed ls [] [] []
+  more : {cs : List Call} {ts : List Told} {run : Run} (c : Call) (t : Told) (e : Event) → Replayed ls cs ts run → Made ls c t e → Replayed ls (cs ++ c ∷ []) (ts ++ t ∷ []) (e ∷ run)
 
--- a table, its memo, and the lists for handles and for findings, or what is left of them
-pub record State : Type 0 where
-  pub table : Store
-  pub memo : Pairs
-  pub handles : List ℕ
-  pub found : List Checked
-
-abbrev pub state : Store → Pairs → List ℕ → List Checked → State
-state s P hs fs = record { table = s; memo = P; handles = hs; found = fs }
-
--- a call with `work` work rows between two states, what it was told, and its event: the call's own contract
-pub data Made (o : Ops) (work : ℕ) (ls : List Line) : State → Call → Told → Event → State → Type 0 where
-  input : {s t : Store} {P Q : Pairs} {hs : List ℕ} {fs : List Checked} (i : ℕ) (r : Result ℕ TableFault)
-      → Shape s t P Q (input_refusal s i) r
-      → Made o work ls (state s P hs fs) (calls.Input i) (tolds.Handle r) (runs.input i (answer_of r)) (state t Q hs fs)
-  constant : {s : Store} {P : Pairs} {hs : List ℕ} {fs : List Checked} (v : ℕ) (r : Result ℕ TableFault)
-      → ((R : Pairs) → Shape s s R R (constant_refusal o v) r)
-      → Made o work ls (state s P hs fs) (calls.Constant v) (tolds.Handle r) (runs.constant v (answer_of r)) (state s P hs fs)
-  turn : {s t : Store} {P Q : Pairs} {hs : List ℕ} {fs : List Checked} (x : ℕ) (r : Result ℕ TableFault)
-      → Shape s t P Q (turn_refusal o s work x) r
-      → Made o work ls (state s P hs fs) (calls.Turn x) (tolds.Handle r) (runs.turn (given o s x) (answer_of r)) (state t Q hs fs)
-  join : {s t : Store} {P Q : Pairs} {hs : List ℕ} {fs : List Checked} (k x y : ℕ) (r : Result ℕ TableFault)
-      → Shape s t P Q (join_refusal o s work k x y) r
-      → Made o work ls (state s P hs fs) (calls.Join k x y) (tolds.Handle r) (runs.join k (given o s x) (given o s y) (answer_of r)) (state t Q hs fs)
-  check : {s t : Store} {P Q : Pairs} {hs : List ℕ} {fs : List Checked} (x y : ℕ) (r : Result Checked TableFault)
-      → Shape s t P Q (join_refusal o s work 9 x y) (handle_of r)
-      → Made o work ls (state s P hs fs) (calls.Check x y) (tolds.Check r) (check_event o s x y r) (state t Q hs fs)
-  lay : {s t : Store} {P Q : Pairs} {hs hs' : List ℕ} {fs : List Checked} (a : Span) (r : Result (Unit {0}) LayFault)
-      → Laid o s t P Q work (span_of ls a) hs hs' r
-      → Made o work ls (state s P hs fs) (calls.Lay a) (tolds.Lay r) (runs.lay (span_of ls a) (lay_answers (span_of ls a) hs' r)) (state t Q hs' fs)
-  compare : {s t : Store} {P Q : Pairs} {hs hs' : List ℕ} {fs fs' : List Checked} (a b : Span) (r : Result ℕ CompareFault)
-      → Compared o s t P Q work (span_of ls a) (span_of ls b) hs hs' fs fs' r
-      → Made o work ls (state s P hs fs) (calls.Compare a b) (tolds.Compare r) (compare_event (span_of ls a) (span_of ls b) hs' fs' r) (state t Q hs' fs')
-
--- a call that is made, and that keeps the law of runs
-abbrev pub Called : Ops → ℕ → ℕ → List Line → State → Call → Told → State → Type 0
-Called o room work ls s c a t =
-    (e : Event) × Made o work ls s c a e t × ((run : Run) → Kept o room run s.table s.memo → Kept o room (e ∷ run) t.table t.memo)
-
--- what is left after a call
-abbrev pub past : List Line → Call → State → State
-past ls c u = state u.table u.memo (drop (handles_for ls c) u.handles) (drop (rows_for ls c) u.found)
-
--- a list of calls from the state s, each on what the earlier ones left: what each was told, their run, the handles and the
--- rows that they took, in order, and the state after them
-pub data Replayed (o : Ops) (work : ℕ) (ls : List Line) (s : State) : List Call → List Told → Run → List ℕ → List Checked → State → Type 0 where
-  none : Replayed o work ls s [] [] [] [] [] s
-  more : {cs : List Call} {ts : List Told} {run : Run} {hs : List ℕ} {fs : List Checked} {t u : State} (c : Call) (a : Told) (e : Event)
-      → Replayed o work ls s cs ts run hs fs t → Made o work ls t c a e u
-      → Replayed o work ls s (cs ++ c ∷ []) (ts ++ a ∷ []) (e ∷ run)
-      (hs ++ take (handles_for ls c) u.handles) (fs ++ take (rows_for ls c) u.found) (past ls c u)
-
--- the calls from a start with n inputs on, where table, memo and lists were s before it and are t now
-pub record Ran (o : Ops) (room n work : ℕ) (ls : List Line) (cs : List Call) (s t : State) (old new : List Told) : Type 0 where
-  -- the memo as the start left it
-  pub memo : Pairs
-  pub emptied : NoPairs memo
+-- the calls' run: provided each handle given to an accepted call was an answer since the start, the law holds outright
+pub record Ran (o : Ops) (room n : ℕ) (ls : List Line) (cs : List Call) (t : Store) (old new : List Told) : Type 0 where
   pub run : Run
-  -- the lists have what the calls took, in order, and are as before past that
-  pub taken_handles : List ℕ
-  pub taken_rows : List Checked
-  pub replayed :
-      Replayed o work ls (state (store n []) memo s.handles s.found) cs (take (length cs) new) run taken_handles taken_rows
-      (state t.table t.memo (drop (length taken_handles) s.handles) (drop (length taken_rows) s.found))
-  pub handles : t.handles ≡ taken_handles ++ drop (length taken_handles) s.handles
-  pub rows : t.found ≡ taken_rows ++ drop (length taken_rows) s.found
+  pub replayed : Replayed ls cs (take (length cs) new) run
+  pub found : Provided o n run → Found o n room t.used run
+  pub inputs : t.inputs ≡ n
   pub rest : drop (length cs) new ≡ drop (length cs) old
-  pub inputs : t.table.inputs ≡ n
-  -- provided each handle given to an accepted call was an answer since the start, the law holds; and calls may follow
-  pub found : Provided o n run → Found o n room t.table.used run
-  pub kept : Kept o room run t.table t.memo
 
-abbrev pub ReplayAnswer : Ops → ℕ → ℕ → ℕ → List Line → List Call → State → State → List Told → List Told → Result (Unit {0}) ReplayFault → Type 0
-ReplayAnswer o room n work ls cs s t old new (Ok _) = (length cs ≤ length old) × (n ≤ 60) × Ran o room n work ls cs s t old new
-ReplayAnswer o room n work ls cs s t old new (Err ShortList) = (length old < length cs) × (t ≡ s) × (new ≡ old)
-ReplayAnswer o room n work ls cs s t old new (Err (Table f)) = (length cs ≤ length old) × (start_refusal n ≡ Some f) × (t ≡ s) × (new ≡ old)
+-- nothing is changed
+pub record Unstarted (s t : Store) (P Q : Pairs) (old new : List Told) : Type 0 where
+  pub table : t ≡ s
+  pub memo : Q ≡ P
+  pub told : new ≡ old
+
+abbrev pub ReplayAnswer : Ops → ℕ → ℕ → List Line → List Call → Store → Store → Pairs → Pairs → List Told → List Told → Result (Unit {0}) ReplayFault → Type 0
+ReplayAnswer o room n ls cs s t P Q old new (Ok _) = (length cs ≤ length old) × (n ≤ 60) × Ran o room n ls cs t old new
+ReplayAnswer o room n ls cs s t P Q old new (Err ShortList) = (length old < length cs) × Unstarted s t P Q old new
+ReplayAnswer o room n ls cs s t P Q old new (Err (Table f)) = (length cs ≤ length old) × (start_refusal n ≡ Some f) × Unstarted s t P Q old new

@@ -11,6 +11,7 @@ use Rattle.netlist.specs.FaultNumbers.{line_fault_number}
 use Rattle.netlist.specs.Findings.{findings}
 use Rattle.text.specs.declared.writer.Summary.TheVariants.{Tried}
 use Rattle.text.specs.Reports.{fault_row, summary_row, findings_text}
+use Rattle.text.specs.Answers as texts
 
 abbrev pub too_many_inputs : List ℕ
 too_many_inputs = codes "more than 16 inputs: too many patterns to try\n"
@@ -33,6 +34,14 @@ compared o n ls ms =
     (unless_refused 2 (first_fault o n 0 ms)
     (cond (nat_lt 16 n) too_many_inputs (report o n ls ms))))
     (fault_row 42 0 None)
+
+-- the lists of lines at the start
+abbrev pub blank_lines : List Line
+blank_lines = texts.blank_lines 512
+
+-- what is printed for bytes: the fault of their reading, or what two netlists come to
+abbrev pub Prints : List ℕ → List ℕ → Type 0
+Prints = texts.Prints 512 compared
 
 -- the refused line, if there is one, is one of a netlist of at most 512
 abbrev pub SmallLine : ComparisonFault → Type 0

@@ -2,8 +2,7 @@ ghost use Rattle.std.specs.Prelude.{◌≡◌, ℕ, ◌^◌, ◌≤◌, List, �
 ghost use Rattle.netlist.specs.FaultNumbers.{comparison_fault_number, comparison_fault_netlist, comparison_fault_line};
 ghost use Rattle.text.specs.declared.writer.Summary.TheVariants.{Tried};
 ghost use Rattle.text.specs.Reports.{fault_row, summary_row, findings_text};
-ghost use Rattle.text.specs.Answers.{Prints};
-ghost use Rattle.patterns.specs.Answers.{too_many_inputs, compared, SmallLine};
+ghost use Rattle.patterns.specs.Answers.{too_many_inputs, compared, Prints, SmallLine};
 
 use algebra::{Algebra, FiveValued, TwoValued};
 use evaluation::{check_comparison, compare_by_patterns};
@@ -139,8 +138,8 @@ fn put_answer(
     requires findings { length findings.old ≡ 512 }
     requires out { length out.old ≡ 40000 }
     ensures within { result ≤ 40000 }
-    ensures text { Prints 512 compared input.now (take result out.new) }
-    ensures only { (t : List ℕ) → Prints 512 compared input.now t → t ≡ take result out.new }
+    ensures text { Prints input.now (take result out.new) }
+    ensures only { (t : List ℕ) → Prints input.now t → t ≡ take result out.new }
 {
     match read_pair(input, first, second) {
         Err(fault) => put_fault(out, fault.number(), fault.netlist(), fault.line()),
@@ -159,7 +158,7 @@ fn put_answer(
 
 // What is printed for an input, and nothing else may be printed for it.
 pub fn answer(heap: Global, input: &[u8]) -> Result<Vec<u8>, AllocError>
-    ensures { IfOk result (λ v. Prints 512 compared input.now v.items × ((t : List ℕ) → Prints 512 compared input.now t → t ≡ v.items)) }
+    ensures { IfOk result (λ v. Prints input.now v.items × ((t : List ℕ) → Prints input.now t → t ≡ v.items)) }
 {
     let mut first = vec![in heap; BLANK; LINES]?;
     let mut second = vec![in heap; BLANK; LINES]?;

@@ -7,7 +7,8 @@ use Rattle.comparison.specs.declared.replaying.Told.TheVariants.{Handle, Check, 
 use Rattle.checking.specs.Checks.{handle_of, check_event}
 use Rattle.laying.specs.Lays.{Laid, lay_answers}
 use Rattle.comparison.specs.Compares.{Compared, compare_event}
-use Rattle.comparison.specs.Replays.{span_of, handles_for, rows_for, state, Called, input, constant, turn, join, check, lay, compare}
+use Rattle.comparison.specs.Replays.{span_of}
+use Rattle.comparison.specs.States.{handles_for, rows_for, state, Called, input, constant, turn, join, check, lay, compare}
 use Rattle.comparison.proofs.Reruns.{laid_inputs, compared_inputs, laid_rest, compared_rest}
 use Rattle.comparison.proofs.replaying.calls.make_call.Goals as goal
 

@@ -1,11 +1,12 @@
-use Rattle.std.proofs.Common.{◌≡◌, ◌+◌, ◌-◌, [], length, set, sym, refl, ◌∙◌, subst, arith}
+use Rattle.std.proofs.Common.{◌≡◌, ◌+◌, ◌-◌, ◌≤◌, [], length, set, sym, refl, ◌∙◌, subst, arith}
 use borrow.Rule.Slice.PartMut.{put_mid}
 use Rattle.std.proofs.lemmas.List.{get_or_default}
 use Rattle.diagram.specs.Views.{view, room}
 use Rattle.records.specs.Runs.{Kept}
 use Rattle.records.proofs.Shapes.{well}
-use Rattle.comparison.specs.Replays.{state, Ran}
+use Rattle.comparison.specs.States.{state, RanFrom}
 use Rattle.comparison.proofs.Reruns.{moved, Running, running_none, running_more, running_all}
+use Rattle.comparison.proofs.Erased.{ran_alone}
 use Rattle.comparison.proofs.replaying.calls.replay.Goals as goal
 
 pub loop-number-init : goal.loop-number-init
@@ -50,11 +51,7 @@ returns g c =
     let after = state (view table) (g.M.Memo.recalls c.loop-number.memo) c.loop-number.handles c.loop-number.found in
     let e : room table ≡ room c.args.table.now = inv.1 ∙ c.in_default.ensures.room in
     let ended : c.loop-number.number ≡ length c.args.calls.now = omega (arith, c.loop-number-test.false, c.loop-number.auto.number-end) in
-    record {
-      answer = (
-        omega (arith, c.if-told-calls.false),
-        omega (arith, (well table.well).few, inv.0.inputs),
-        subst (λ m. Ran o m c.args.inputs (length c.args.rows.now) c.args.lines.now c.args.calls.now before after c.args.told.now c.loop-number.told) e (running_all before inv.0 ended),
-      );
-      room = e;
-    }
+    let fits : length c.args.calls.now ≤ length c.args.told.now = omega (arith, c.if-told-calls.false) in
+    let few : c.args.inputs ≤ 60 = omega (arith, (well table.well).few, inv.0.inputs) in
+    let ran = subst (λ m. RanFrom o m c.args.inputs (length c.args.rows.now) c.args.lines.now c.args.calls.now before after c.args.told.now c.loop-number.told) e (running_all before inv.0 ended) in
+    record { answer = (fits, few, ran_alone ran); leaves = (fits, few, ran); room = e }
