@@ -1,5 +1,5 @@
 -- The five values 0, 1, X, Z and S, codes 0 to 4, by their published tables: a row for each left operand. Assumes nothing.
-use Rattle.std.specs.Prelude.{ℕ, ◌+◌, ◌*◌, Bool, true, false, cond, not, List, [], ◌∷◌, codes, ◌==◌, slice_index}
+use Rattle.std.specs.Prelude.{ℕ, ◌+◌, ◌*◌, true, cond, not, List, [], ◌∷◌, codes, ◌==◌, slice_index}
 use Prim.Native.String.{String}
 use Rattle.algebra.specs.Ops.{Ops, total}
 use Rattle.algebra.specs.Laws.{Laws}

@@ -1,11 +1,11 @@
 -- The laws of an algebra as one computed test, and that an algebra that passes it keeps them. Assumes nothing.
-use Rattle.std.specs.Prelude.{◌≡◌, ℕ, ◌<◌, ◌≤◌, Bool, true, false, cond, not, ◌&&◌, ◌||◌, T, ltb, ◌≢◌, ◌⊎◌, length, ◌==◌, nat_eq, nat_le, nat_lt, slice_index, refl}
-use Rattle.std.proofs.Common.{sym, ap, subst, ◌∙◌, inl, inr, ⊎_elim, arith, ltb→lt, lt→ltb, eqb→eq, T_not, leb→le, lit<}
+use Rattle.std.specs.Prelude.{◌≡◌, ℕ, ◌<◌, ◌≤◌, Bool, true, false, cond, not, ◌&&◌, ◌||◌, T, ltb, ◌≢◌, length, ◌==◌, nat_eq, nat_le, nat_lt, slice_index, refl}
+use Rattle.std.proofs.Common.{sym, ap, subst, ⊎_elim, arith, ltb→lt, eqb→eq, T_not, leb→le, lit<}
 use Rattle.std.proofs.Math.Dec.{eqb_refl, not_T}
 use Rattle.std.proofs.lemmas.Bool.{cond_both, cond-true, cond-false, ltb-true, lt-ltb, eqb-true, cases_Bool, or_cases, and_parts}
 use Rattle.algebra.specs.Below.{every, some, left, right, every_at, some_at}
 use Rattle.algebra.specs.Ops.{Ops, read, total, known}
-use Rattle.algebra.specs.Laws.{Laws, Total, Firm}
+use Rattle.algebra.specs.Laws.{Laws, Total}
 
 abbrev implies : Bool → Bool → Bool
 implies true b = b

@@ -1,5 +1,5 @@
 -- What every algebra keeps. Assumes nothing.
-use Rattle.std.specs.Prelude.{◌≡◌, ℕ, ◌<◌, ◌≤◌, Bool, true, false, not, T, ◌≢◌, length, slice_index}
+use Rattle.std.specs.Prelude.{◌≡◌, ℕ, ◌<◌, ◌≤◌, false, not, T, ◌≢◌, length, slice_index}
 use Rattle.algebra.specs.Ops.{Ops, read, known}
 
 -- settled, and different from its NOT

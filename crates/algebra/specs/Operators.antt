@@ -1,5 +1,5 @@
 -- The numbers of the operators. Assumes nothing.
-use Rattle.std.specs.Prelude.{ℕ, Bool, true, false, cond, Some, None, Option, ◌==◌}
+use Rattle.std.specs.Prelude.{ℕ, cond, Some, None, Option, ◌==◌}
 use Rattle.algebra.specs.declared.operator.Op.{Op}
 use Rattle.algebra.specs.declared.operator.Op.TheVariants.{And, Or, IfAnd, IfOr, Wire, Grade}
 

@@ -1,5 +1,5 @@
 -- What an algebra of signal values is, as numbers: values by their codes, operators by their numbers. Assumes nothing.
-use Rattle.std.specs.Prelude.{ℕ, Bool, true, false, cond, ◌&&◌, ◌||◌, List, ◌==◌, nat_lt}
+use Rattle.std.specs.Prelude.{ℕ, Bool, cond, ◌&&◌, ◌||◌, List, ◌==◌, nat_lt}
 
 pub record Ops : Type 0 where
   -- how many values there are

@@ -1,5 +1,5 @@
 -- The two values 0 and 1, without WIRE. Assumes nothing.
-use Rattle.std.specs.Prelude.{ℕ, ◌+◌, ◌-◌, Bool, true, false, cond, ◌||◌, List, [], ◌∷◌, ◌==◌, bit_and, bit_or, bit_xor}
+use Rattle.std.specs.Prelude.{◌+◌, ◌-◌, true, false, cond, ◌||◌, [], ◌∷◌, ◌==◌, bit_and, bit_or, bit_xor}
 use Rattle.algebra.specs.Ops.{Ops, total}
 use Rattle.algebra.specs.Laws.{Laws}
 use Rattle.algebra.specs.Lawful.{lawful, total_is_total}

@@ -1,9 +1,9 @@
 -- What a check finds, and that it keeps the law of runs. Assumes nothing.
-use Rattle.std.proofs.Common.{◌≡◌, ℕ, ◌^◌, ◌<◌, ◌≤◌, Bool, true, false, ltb, List, [], ◌∷◌, IfOk, Some, None, Ok, Err, Option, Result, sym, refl, ap, ◌∙◌, subst, ap₂, arith}
+use Rattle.std.proofs.Common.{◌≡◌, ℕ, ◌≤◌, Bool, true, false, ltb, [], ◌∷◌, IfOk, None, Ok, Err, Option, Result, sym, refl, ap, ◌∙◌, ap₂, arith}
 use Rattle.algebra.specs.Ops.{Ops, known}
 use Rattle.algebra.specs.Laws.{Laws}
 use Rattle.netlist.specs.declared.finding.Finding.{Finding}
-use Rattle.netlist.specs.Signals.{Agree, joined}
+use Rattle.netlist.specs.Signals.{joined}
 use Rattle.netlist.specs.Findings.{finding}
 use Rattle.records.specs.declared.fault.TableFault.{TableFault}
 use Rattle.records.specs.declared.fault.TableFault.TheVariants.{TooManyInputs, FewRows, NoSuchHandle, NoSuchInput, NoSuchCode, NoSuchOperator, NoSuchPattern, Full}
@@ -13,13 +13,12 @@ use Rattle.memo.specs.Memos.{Pairs}
 use Rattle.records.specs.Faults.{test, join_refusal}
 use Rattle.records.specs.Outcomes.{Shape, Meaning, TruePairs}
 use Rattle.records.specs.Runs.{Run, answer_of, IfTold, Kept}
-use Rattle.records.proofs.Moves.{pattern_moved}
 use Rattle.records.proofs.Values.{lawful_within, lawful_grows, value_grows}
 use Rattle.records.proofs.Grades.{finding_agrees}
 use Rattle.records.proofs.Events.{kept_check}
 use Rattle.checking.specs.declared.checking.Checked.{Checked}
 use Rattle.checking.specs.Gradings.{Graded}
-use Rattle.checking.specs.Checks.{handle_of, finding_of, check_event}
+use Rattle.checking.specs.Checks.{handle_of, check_event}
 
 -- a test that lets a call pass
 pub test_passed : (b : Bool) (f : TableFault) (later : Option TableFault) → test b f later ≡ None → (b ≡ true) × (later ≡ None)

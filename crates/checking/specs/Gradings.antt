@@ -1,5 +1,5 @@
 -- What a handle must be to tell how two others grade, and where it has a grade. Assumes nothing.
-use Rattle.std.specs.Prelude.{◌≡◌, ℕ, Some, None, Option}
+use Rattle.std.specs.Prelude.{ℕ, Some, None, Option}
 use Rattle.algebra.specs.Ops.{Ops}
 use Rattle.netlist.specs.declared.finding.Difference.{Difference}
 use Rattle.netlist.specs.Signals.{Signal, Agree, joined}

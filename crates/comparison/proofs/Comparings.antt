@@ -1,5 +1,5 @@
 -- Two netlists laid one after the other, as one event. Assumes nothing.
-use Rattle.std.proofs.Common.{◌≡◌, ℕ, ◌+◌, ◌<◌, ◌≤◌, List, [], ◌∷◌, ◌++◌, map, length, take, drop, Some, None, Ok, Err, Result, sym, refl, ap, ◌∙◌, subst, arith}
+use Rattle.std.proofs.Common.{◌≡◌, ℕ, ◌+◌, ◌<◌, List, [], ◌∷◌, ◌++◌, map, length, take, drop, None, Ok, Err, Result, sym, refl, ap, ◌∙◌, subst, arith}
 use borrow.Rule.Slice.PartMut.{post_of}
 use Rattle.std.proofs.lemmas.List.{length-take-le, take_all, take_at, drop_at, drop-drop}
 use Rattle.algebra.specs.Ops.{Ops}
@@ -19,7 +19,7 @@ use Rattle.faults.specs.declared.fault.LayFault.{LayFault}
 use Rattle.faults.specs.declared.fault.LayFault.TheVariants.{ShortList as ShortLines, Table as OfTable, Line as AtLine}
 use Rattle.faults.specs.declared.fault.CompareFault.{CompareFault}
 use Rattle.faults.specs.declared.fault.CompareFault.TheVariants.{ShortList, FewFindings, OutCounts, Table, First, Second, Pair}
-use Rattle.laying.specs.Lays.{Laid, RefusedLine, Written, lay_answers}
+use Rattle.laying.specs.Lays.{Laid, RefusedLine, lay_answers}
 use Rattle.comparison.specs.Compares.{in_first, in_second, LineRefused, PartsCompared, parts_event, Counted, CountsRefused, Unchanged, second_part, Begun, Compared, compare_event}
 use Rattle.checking.specs.declared.checking.Checked.{Checked}
 

@@ -1,11 +1,10 @@
 -- The pairs so far checked, and one pair on. Assumes nothing.
-use Rattle.std.proofs.Common.{◌≡◌, ℕ, ◌+◌, ◌-◌, ◌<◌, ◌≤◌, List, [], ◌∷◌, ◌++◌, map, length, get_or, take, drop, set, IfOk, Ok, Err, Result, sym, refl, ap, ◌∙◌, subst, ap₂, inl, inr, ⊎_elim, arith}
+use Rattle.std.proofs.Common.{◌≡◌, ℕ, ◌+◌, ◌<◌, ◌≤◌, List, [], ◌∷◌, ◌++◌, map, length, get_or, take, drop, set, IfOk, Ok, Err, Result, sym, refl, ap, ◌∙◌, subst, ⊎_elim, arith}
 use Rattle.std.proofs.lemmas.List.{length-take-le, length-map, length-drop, take_all, take_more_set, map_push, drop-set-lt, drop-drop, drop_more, length-append, get_or_append_left, get_or-append-add}
 use Rattle.std.proofs.lemmas.Bool.{cases_lt}
 use Rattle.algebra.specs.Ops.{Ops}
 use Rattle.algebra.specs.Laws.{Laws}
 use Rattle.netlist.specs.declared.line.Line.{Line}
-use Rattle.netlist.specs.declared.finding.Finding.{Finding}
 use Rattle.netlist.specs.Signals.{joined}
 use Rattle.netlist.specs.Lines.{outs, out_count}
 use Rattle.netlist.specs.Findings.{finding}
@@ -18,7 +17,7 @@ use Rattle.memo.specs.Memos.{Pairs}
 use Rattle.records.specs.Changes.{Grows}
 use Rattle.records.specs.Faults.{join_refusal}
 use Rattle.records.specs.Outcomes.{Shape, Meaning, TruePairs}
-use Rattle.records.specs.Runs.{told, answer_of, Run, compare, Kept}
+use Rattle.records.specs.Runs.{told, Run, compare, Kept}
 use Rattle.records.proofs.Adds.{grows_refl, grows_trans}
 use Rattle.records.proofs.Comparing.{Due, kept_pair, kept_refused_pair}
 use Rattle.checking.specs.declared.checking.Checked.{Checked}

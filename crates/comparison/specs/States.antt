@@ -7,7 +7,7 @@ use Rattle.records.specs.declared.fault.TableFault.{TableFault}
 use Rattle.netlist.specs.Lines.{out_count}
 use Rattle.records.specs.Stores.{Store, store}
 use Rattle.memo.specs.Memos.{Pairs, NoPairs}
-use Rattle.records.specs.Faults.{table_fault_number, start_refusal, input_refusal, constant_refusal, turn_refusal, join_refusal}
+use Rattle.records.specs.Faults.{start_refusal, input_refusal, constant_refusal, turn_refusal, join_refusal}
 use Rattle.records.specs.Outcomes.{Shape}
 use Rattle.records.specs.Runs as runs
 use Rattle.records.specs.Runs.{Run, Event, Provided, Found, Kept, answer_of, given}

@@ -1,5 +1,5 @@
 -- What a walk that ran out of places says of the number of parts, and what cutting back leaves. Assumes nothing.
-use Rattle.std.proofs.Common.{◌≡◌, ℕ, zero, suc, ◌<◌, ◌≤◌, Bool, true, false, cond, eqb, ◌⊎◌, List, [], ◌∷◌, Some, Option, sym, refl, ap, ◌∙◌, subst, inl, ⊎_elim, suc-le-suc, arith}
+use Rattle.std.proofs.Common.{◌≡◌, ℕ, zero, suc, ◌<◌, ◌≤◌, Bool, true, false, cond, eqb, List, [], ◌∷◌, Some, Option, sym, refl, ap, ◌∙◌, subst, inl, ⊎_elim, suc-le-suc, arith}
 use Rattle.std.proofs.lemmas.Bool.{cases_lt, cond_both, eqb-true, eqb-false, ne_eqb, both_ways}
 use Rattle.algebra.specs.Ops.{Ops, known}
 use Rattle.algebra.specs.Laws.{Laws}

@@ -1,5 +1,5 @@
 -- Tests of a mask by one operation on bits. Assumes nothing.
-use Rattle.std.proofs.Common.{◌≡◌, ℕ, zero, suc, ◌+◌, ◌-◌, ◌/◌, ◌%◌, ◌^◌, ◌<◌, ◌≤◌, Bool, true, false, cond, not, ◌&&◌, ◌||◌, eqb, ltb, ◌⊎◌, sym, refl, ap, ◌∙◌, ⊎_elim, add-one, arith, pow_pos}
+use Rattle.std.proofs.Common.{◌≡◌, ℕ, zero, suc, ◌+◌, ◌-◌, ◌/◌, ◌%◌, ◌^◌, ◌<◌, ◌≤◌, Bool, true, false, cond, not, ◌&&◌, ◌||◌, eqb, ltb, sym, refl, ap, ◌∙◌, ⊎_elim, add-one, arith, pow_pos}
 use native.Mathlib.Nat.{zero-div}
 use lib.Bits.{bit_and, bit_or, and_shr, and_mod, and_le_r, or_lt}
 use Rattle.std.proofs.lemmas.Nat.{pow_below}

@@ -1,12 +1,11 @@
 -- A netlist so far laid, and one line on. Assumes nothing.
-use Rattle.std.proofs.Common.{◌≡◌, ℕ, ◌+◌, ◌<◌, ◌≤◌, List, [], ◌∷◌, ◌++◌, map, length, get_or, take, drop, set, Some, None, Ok, Err, Result, sym, refl, ap, ◌∙◌, subst, arith}
+use Rattle.std.proofs.Common.{◌≡◌, ℕ, ◌+◌, ◌<◌, ◌≤◌, List, [], ◌∷◌, ◌++◌, map, length, get_or, take, drop, set, None, Ok, Err, Result, sym, refl, ap, ◌∙◌, subst, arith}
 use Rattle.std.proofs.lemmas.List.{length-take-le, take_more_set, map_push, drop-set-lt, drop-drop}
 use Rattle.algebra.specs.Ops.{Ops}
 use Rattle.algebra.specs.Laws.{Laws}
 use Rattle.netlist.specs.declared.line.Line.{Line}
 use Rattle.netlist.specs.Faults.{line_fault, first_fault}
 use Rattle.netlist.proofs.FirstFaults.{fault_passed, fault_found, fault_none}
-use Rattle.records.specs.declared.fault.TableFault.TheVariants.{FewRows}
 use Rattle.records.specs.Stores.{Store}
 use Rattle.records.specs.Rules.{Well}
 use Rattle.memo.specs.Memos.{Pairs}
@@ -20,7 +19,7 @@ use Rattle.faults.specs.declared.fault.LineReason.TheVariants.{Line as OfLine, T
 use Rattle.faults.specs.declared.fault.LayFault.TheVariants.{Line as AtLine}
 use Rattle.faults.specs.declared.fault.LineRefusal.{LineRefusal}
 use Rattle.faults.specs.Faults.{at_line}
-use Rattle.laying.specs.Lays.{LineKept, Lined, reason_answer, lay_answers, RefusedLine, Written, Laid}
+use Rattle.laying.specs.Lays.{LineKept, Lined, reason_answer, lay_answers, RefusedLine, Written}
 
 -- the first k lines are laid
 pub record Laying (o : Ops) (room : ℕ) (s t : Store) (P Q : Pairs) (ls : List Line) (old new : List ℕ) (k : ℕ) : Type 0 where

@@ -1,5 +1,5 @@
 -- One line on a table: what passed its tests, what the table may refuse, what it means. Assumes nothing.
-use Rattle.std.proofs.Common.{◌≡◌, ℕ, ◌+◌, ◌<◌, ◌≤◌, Bool, true, false, cond, not, ◌&&◌, ◌||◌, eqb, ltb, ◌⊎◌, List, [], ◌∷◌, ◌++◌, map, length, get_or, take, drop, Some, None, Ok, Err, Option, Result, sym, refl, ap, ◌∙◌, subst, ap₂, inl, inr, ⊎_elim, arith}
+use Rattle.std.proofs.Common.{◌≡◌, ℕ, ◌<◌, ◌≤◌, Bool, true, false, cond, not, ◌&&◌, ◌||◌, eqb, ltb, ◌⊎◌, List, [], ◌∷◌, ◌++◌, map, length, get_or, take, Some, None, Ok, Err, Option, Result, sym, refl, ap, ◌∙◌, subst, ap₂, inl, inr, ⊎_elim, arith}
 use Rattle.std.specs.Result as results
 use Rattle.std.proofs.lemmas.Bool.{cond-true, cond-false, cases_eq, eq-eqb, ne_eqb, lt-ltb, ltb-true}
 use Rattle.std.proofs.lemmas.List.{get_or-map, get_or-take, length-take-le}
@@ -12,15 +12,15 @@ use Rattle.netlist.specs.Signals.{Signal, input, constant, turned, joined}
 use Rattle.netlist.specs.Lines.{signal_at, line_signal}
 use Rattle.netlist.specs.Faults.{kind_known, unless, line_fault}
 use Rattle.records.specs.declared.fault.TableFault.{TableFault}
-use Rattle.records.specs.declared.fault.TableFault.TheVariants.{FewRows, NoSuchHandle, NoSuchInput as NoInput, NoSuchCode as NoCode, NoSuchOperator, Full}
+use Rattle.records.specs.declared.fault.TableFault.TheVariants.{FewRows, NoSuchHandle, NoSuchInput as NoInput, NoSuchCode as NoCode, NoSuchOperator}
 use Rattle.records.specs.Stores.{Store, value}
 use Rattle.records.specs.Rules.{Well, lawful}
 use Rattle.memo.specs.Memos.{Pairs}
 use Rattle.records.specs.Changes.{Grows}
 use Rattle.records.specs.Steps.{Back}
 use Rattle.records.specs.Faults.{test, input_refusal, constant_refusal, turn_refusal, join_refusal}
-use Rattle.records.specs.Outcomes.{Shape, Stopped, CutBack, Meaning}
-use Rattle.records.specs.Runs.{told, answer_of, Run, lay, Kept}
+use Rattle.records.specs.Outcomes.{Shape, Meaning}
+use Rattle.records.specs.Runs.{told, answer_of, lay, Kept}
 use Rattle.records.proofs.Laying.{kept_line, kept_out_line}
 use Rattle.laying.specs.Lays.{Unlawful, TableRefuses, LineKept}
 

@@ -1,8 +1,7 @@
 -- What laying a line and a netlist answers and leaves. Assumes nothing.
-use Rattle.std.specs.Prelude.{◌≡◌, ℕ, ◌+◌, ◌<◌, ◌≤◌, false, ◌⊎◌, List, [], ◌∷◌, ◌++◌, map, length, take, drop, Some, None, Ok, Err, Option, Result, slice_index, slice_index_or}
+use Rattle.std.specs.Prelude.{◌≡◌, ℕ, ◌+◌, ◌<◌, ◌≤◌, false, ◌⊎◌, List, [], ◌∷◌, ◌++◌, map, length, take, drop, Some, None, Ok, Err, Result, slice_index, slice_index_or}
 use Rattle.algebra.specs.Ops.{Ops}
 use Rattle.netlist.specs.declared.line.Line.{Line}
-use Rattle.netlist.specs.declared.fault.NetlistFault.{NetlistFault}
 use Rattle.netlist.specs.Faults.{line_fault, first_fault}
 use Rattle.records.specs.declared.fault.TableFault.{TableFault}
 use Rattle.records.specs.declared.fault.TableFault.TheVariants.{FewRows, NoSuchHandle, Full}
@@ -14,7 +13,6 @@ use Rattle.records.specs.Steps.{Back}
 use Rattle.records.specs.Runs.{Answer, told, refused, Run, lay, answer_of, Kept}
 use Rattle.faults.specs.declared.fault.LineReason.{LineReason}
 use Rattle.faults.specs.declared.fault.LineReason.TheVariants.{Line as OfLine, Table as OfTable}
-use Rattle.faults.specs.declared.fault.LineRefusal.{LineRefusal}
 use Rattle.faults.specs.declared.fault.LayFault.{LayFault}
 use Rattle.faults.specs.declared.fault.LayFault.TheVariants.{ShortList, Table, Line as AtLine}
 

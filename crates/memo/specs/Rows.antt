@@ -1,5 +1,5 @@
 -- The rows of a direct-mapped memo. Assumes nothing.
-use Rattle.std.specs.Prelude.{ℕ, ◌≤◌, cond, ◌&&◌, List, Some, None, Option, ◌==◌, slice_index_or}
+use Rattle.std.specs.Prelude.{ℕ, ◌≤◌, cond, ◌&&◌, List, Some, None, ◌==◌, slice_index_or}
 use Rattle.memo.specs.declared.rows.Row.{Row}
 use Rattle.memo.specs.Buckets.{bucket_of}
 use Rattle.memo.specs.Memos.{Pairs}

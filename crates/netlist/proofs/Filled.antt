@@ -1,11 +1,11 @@
 -- A list of the values of the first lines, one line on. Assumes nothing.
-use Rattle.std.proofs.Common.{◌≡◌, ℕ, ◌+◌, ◌-◌, ◌<◌, ◌≤◌, List, [], ◌∷◌, ◌++◌, map, length, get_or, take, drop, set, sym, refl, ap, ◌∙◌, append_assoc, arith}
+use Rattle.std.proofs.Common.{◌≡◌, ℕ, ◌+◌, ◌-◌, ◌<◌, List, [], ◌∷◌, ◌++◌, length, get_or, take, drop, set, sym, ap, ◌∙◌, append_assoc, arith}
 use lib.ListN.{length-map}
 use Rattle.std.proofs.lemmas.List.{set-append_right, get_or_append_left, drop_more, map_push, get_or-map, length-take-le, take_all}
 use Rattle.algebra.specs.Ops.{Ops}
 use Rattle.netlist.specs.declared.line.Line.{Line}
 use Rattle.netlist.specs.Signals.{Signal, constant}
-use Rattle.netlist.specs.Lines.{line_signal, line_signals, signal_at}
+use Rattle.netlist.specs.Lines.{line_signal, line_signals}
 use Rattle.netlist.specs.Evaluations.{values_at, Valued}
 use Rattle.netlist.proofs.LineSignals.{signals_length, signals_more}
 

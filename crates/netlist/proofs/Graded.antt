@@ -1,6 +1,6 @@
 -- What the finding of two signals says. Assumes nothing.
-use Rattle.std.proofs.Common.{◌≡◌, ℕ, zero, suc, ◌+◌, ◌^◌, ◌<◌, ◌≤◌, Bool, true, false, cond, ◌||◌, eqb, ◌⊎◌, List, [], ◌∷◌, ◌++◌, length, get_or, Some, None, Option, sym, refl, ap, ◌∙◌, subst, inl, inr, ⊎_elim, arith}
-use Rattle.std.proofs.lemmas.Bool.{cond-true, cond-false, cases_Bool, cases_eq, eqb-true, eqb-false, eq-eqb, ne_eqb, both_ways, or_cases}
+use Rattle.std.proofs.Common.{◌≡◌, ℕ, suc, ◌^◌, ◌<◌, true, false, ◌||◌, eqb, List, [], ◌∷◌, ◌++◌, length, get_or, Some, None, Option, sym, refl, ap, ◌∙◌, subst, ⊎_elim, arith}
+use Rattle.std.proofs.lemmas.Bool.{cond-true, cond-false, cases_Bool, cases_eq, eqb-true, eqb-false, eq-eqb, ne_eqb, both_ways}
 use Rattle.algebra.specs.Ops.{Ops}
 use Rattle.algebra.specs.Laws.{Laws}
 use Rattle.netlist.specs.declared.finding.Finding.{Finding}
@@ -8,11 +8,11 @@ use Rattle.netlist.specs.declared.finding.Difference.{Difference}
 use Rattle.netlist.specs.declared.finding.Finding.TheVariants.{Clean, Differs}
 use Rattle.netlist.specs.Signals.{Signal, constant, joined}
 use Rattle.netlist.specs.Lines.{signal_at}
-use Rattle.netlist.specs.Findings.{first_from, first_below, differs_at, gravest, finding, finding_below, zipped}
+use Rattle.netlist.specs.Findings.{first_below, differs_at, gravest, finding, zipped}
 use Rattle.std.proofs.lemmas.List.{get_or_append_left}
 use Rattle.netlist.proofs.Zips.{zipped_length, zipped_at}
 use Rattle.netlist.specs.Orders.{before}
-use Rattle.netlist.specs.Verdicts.{Gravest, Verdict, grade_at}
+use Rattle.netlist.specs.Verdicts.{Verdict, grade_at}
 use Rattle.netlist.proofs.Searches.{first_found, first_least, first_none}
 use Rattle.netlist.proofs.Grading.{listed, grade_listed}
 

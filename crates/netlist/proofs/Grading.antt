@@ -1,6 +1,6 @@
 -- The gravest grade over one pattern more. Assumes nothing.
-use Rattle.std.proofs.Common.{◌≡◌, ℕ, zero, suc, ◌+◌, ◌<◌, ◌≤◌, Bool, true, false, cond, ◌||◌, eqb, ◌⊎◌, List, [], ◌∷◌, length, get_or, Some, None, Option, sym, refl, ap, ◌∙◌, subst, inl, inr, ⊎_elim, zero-add, add-one, arith}
-use Rattle.std.proofs.lemmas.Bool.{cond-true, cond-false, cases_Bool, cases_eq, eqb-true, eqb-false, eq-eqb, ne_eqb, or_left, or_right, or_from}
+use Rattle.std.proofs.Common.{◌≡◌, ℕ, zero, suc, ◌+◌, ◌<◌, Bool, true, false, cond, ◌||◌, eqb, List, [], ◌∷◌, length, get_or, Some, None, Option, sym, refl, ap, ◌∙◌, ⊎_elim, zero-add, add-one, arith}
+use Rattle.std.proofs.lemmas.Bool.{cond-true, cond-false, cases_eq, eqb-true, eqb-false, eq-eqb, ne_eqb, or_left, or_right, or_from}
 use Rattle.netlist.specs.declared.finding.Finding.{Finding}
 use Rattle.netlist.specs.declared.finding.Difference.{Difference}
 use Rattle.netlist.specs.declared.finding.Finding.TheVariants.{Clean, Differs}
@@ -8,7 +8,7 @@ use Rattle.algebra.specs.Ops.{Ops, read}
 use Rattle.algebra.specs.Laws.{Laws}
 use Rattle.algebra.specs.Lawful.{read_below}
 use Rattle.netlist.specs.Signals.{Signal, joined}
-use Rattle.netlist.specs.Findings.{first_from, first_below, differs_at, gravest, finding_below}
+use Rattle.netlist.specs.Findings.{first_below, differs_at, gravest, finding_below}
 use Rattle.netlist.specs.Orders.{before}
 use Rattle.netlist.proofs.Searches.{or_at, first_last, first_found, first_none}
 

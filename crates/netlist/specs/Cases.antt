@@ -1,5 +1,5 @@
 -- Worked cases: what the definitions come to, and what that is to be. Assumes nothing.
-use Rattle.std.specs.Prelude.{ℕ, ◌^◌, Bool, true, false, cond, ◌&&◌, T, List, [], ◌∷◌, ◌++◌, length, ◌==◌}
+use Rattle.std.specs.Prelude.{ℕ, ◌^◌, Bool, true, cond, ◌&&◌, T, List, [], ◌∷◌, ◌++◌, length, ◌==◌}
 use Rattle.algebra.specs.Five.{five}
 use Rattle.netlist.specs.declared.line.Line.{Line}
 use Rattle.netlist.specs.declared.finding.Finding.{Finding}

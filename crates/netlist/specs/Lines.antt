@@ -1,6 +1,6 @@
 -- What the lines of a netlist mean: a signal each. Which lines are refused. Assumes nothing.
-use Rattle.std.specs.Prelude.{ℕ, suc, ◌<◌, Bool, true, false, cond, not, ◌&&◌, ◌||◌, List, [], ◌∷◌, ◌++◌, ◌==◌, slice_index_or}
-use Rattle.algebra.specs.Ops.{Ops, known}
+use Rattle.std.specs.Prelude.{ℕ, suc, cond, List, [], ◌∷◌, ◌++◌, ◌==◌, slice_index_or}
+use Rattle.algebra.specs.Ops.{Ops}
 use Rattle.netlist.specs.declared.line.Line.{Line}
 use Rattle.netlist.specs.Signals.{Signal, input, constant, turned, joined}
 

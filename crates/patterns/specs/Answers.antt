@@ -1,5 +1,5 @@
 -- What the program prints for its input. Assumes nothing.
-use Rattle.std.specs.Prelude.{ℕ, ◌^◌, ◌<◌, Bool, true, false, cond, List, ◌++◌, Some, None, codes, Option, ◌==◌, nat_lt}
+use Rattle.std.specs.Prelude.{ℕ, ◌^◌, ◌<◌, cond, List, ◌++◌, Some, None, codes, Option, ◌==◌, nat_lt}
 use Rattle.algebra.specs.Ops.{Ops}
 use Rattle.netlist.specs.declared.line.Line.{Line}
 use Rattle.netlist.specs.declared.fault.NetlistFault.{NetlistFault}

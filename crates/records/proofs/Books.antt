@@ -1,6 +1,6 @@
 -- What a book says: the signal of a given handle, one number for one signal, and how many different parts there are.
 -- Assumes nothing.
-use Rattle.std.proofs.Common.{◌≡◌, ℕ, ◌<◌, Bool, true, false, cond, eqb, List, [], ◌∷◌, ◌++◌, length, sym, refl, ap, ◌∙◌, subst, inl, inr, ⊎_elim, arith, pow_pos}
+use Rattle.std.proofs.Common.{◌≡◌, ℕ, ◌<◌, false, eqb, List, [], ◌∷◌, ◌++◌, length, sym, refl, ap, ◌∙◌, inl, inr, ⊎_elim, arith, pow_pos}
 use Rattle.std.specs.List.{AllByRecursion}
 use Rattle.std.proofs.ByRecursion.{All-get_or, All-weaker, All-map}
 use Rattle.std.proofs.lemmas.Bool.{cases_Bool, cond-true, cond-false, eqb-true, both_ways}
@@ -9,10 +9,10 @@ use Rattle.algebra.specs.Laws.{Laws}
 use Rattle.netlist.specs.Signals.{Signal, Agree, constant}
 use Rattle.netlist.specs.Parts.{part, is_constant, part_count}
 use Rattle.records.specs.Stores.{Store, handle, value}
-use Rattle.records.specs.Rules.{Well, Sound, Lawful}
+use Rattle.records.specs.Rules.{Well, Lawful}
 use Rattle.memo.specs.Memos.{Pairs}
-use Rattle.records.specs.Counts.{OnePart, PartOf, nth, DifferentParts, AllParts}
-use Rattle.records.specs.Runs.{Answer, told, full, refused, Given, given, Entry, Book, book_signals, signal_of, Step, step, booked, all_booked, OneNumber, Stands, Holds}
+use Rattle.records.specs.Counts.{OnePart, nth, DifferentParts, AllParts}
+use Rattle.records.specs.Runs.{Answer, told, full, refused, given, Entry, Book, book_signals, signal_of, Step, step, booked, all_booked, OneNumber, Stands, Holds}
 use Rattle.records.proofs.Values.{value_constant, codes, handle_lawful}
 use Rattle.records.proofs.Canon.{one_number}
 use Rattle.records.proofs.Alike.{agree_sym, agree_trans, is_constant_decides, one_sym, one_turned}

@@ -1,5 +1,5 @@
 -- The finding of two signals is that of any two that agree with them. Assumes nothing.
-use Rattle.std.proofs.Common.{◌≡◌, ℕ, zero, suc, ◌+◌, ◌^◌, ◌<◌, ◌≤◌, Bool, cond, eqb, List, [], ◌∷◌, Some, None, Option, sym, refl, ap, ◌∙◌, ap₂, arith}
+use Rattle.std.proofs.Common.{◌≡◌, ℕ, zero, suc, ◌+◌, ◌^◌, ◌<◌, ◌≤◌, Bool, cond, eqb, List, [], ◌∷◌, Some, None, Option, refl, ap, ◌∙◌, ap₂, arith}
 use Rattle.algebra.specs.Ops.{Ops}
 use Rattle.netlist.specs.declared.finding.Finding.{Finding}
 use Rattle.netlist.specs.declared.finding.Finding.TheVariants.{Differs}

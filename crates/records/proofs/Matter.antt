@@ -1,5 +1,5 @@
 -- Which inputs matter to a handle: those that the records below it test. Assumes nothing.
-use Rattle.std.proofs.Common.{◌≡◌, ℕ, zero, suc, ◌+◌, ◌-◌, ◌*◌, ◌/◌, ◌%◌, ◌^◌, ◌<◌, ◌≤◌, Bool, true, false, cond, not, ◌||◌, eqb, ◌⊎◌, List, length, get_or, set, sym, refl, ap, ◌∙◌, subst, inl, inr, ⊎_elim, arith, length-set}
+use Rattle.std.proofs.Common.{◌≡◌, ℕ, zero, suc, ◌+◌, ◌-◌, ◌*◌, ◌/◌, ◌%◌, ◌^◌, ◌<◌, ◌≤◌, Bool, true, not, ◌||◌, eqb, ◌⊎◌, List, length, set, sym, refl, ap, ◌∙◌, subst, inl, inr, ⊎_elim, arith, length-set}
 use lib.Bits.{bit_or}
 use lib.Pow.{ones_split, ones_lt}
 use Rattle.std.proofs.lemmas.Nat.{pow-add, pow_pos, pow_below, or_lt, shr-shr, shr_high, one_shl}
@@ -12,11 +12,11 @@ use Rattle.netlist.specs.Signals.{Signal, bit}
 use Rattle.records.specs.declared.record.Record.{Record}
 use Rattle.records.specs.declared.row.Row.{Row}
 use Rattle.records.specs.Stores.{Store, handle, place, level, side, under_mark, value, up}
-use Rattle.records.specs.Rules.{Placed, Well, Sound, Lawful}
+use Rattle.records.specs.Rules.{Well, Sound, Lawful}
 use Rattle.records.specs.Changes.{Within}
 use Rattle.records.specs.Supports.{same_but, matters, mask_below, support_of, Matters, Covers, More, Collected, AllDone, done_at}
 use Rattle.records.proofs.Bits.{with_bit, with_bit_below, with_bit_here, with_bit_other, same_bits}
-use Rattle.records.proofs.Values.{side_up, side_down, side_before, side_deeper, level_place, lawful_place, lawful_within, value_constant, value_handle, value_under, ignores}
+use Rattle.records.proofs.Values.{side_up, side_down, side_before, side_deeper, level_place, value_constant, value_handle, value_under, ignores}
 use Rattle.records.proofs.Masks.{all_at, all_from, all_fails, seek}
 use Rattle.records.proofs.Canon.{bare_value, one_number}
 use Rattle.records.proofs.Reaches.{up_none, up_one, up_only, up_union_left, up_union_right, up_union_cases}

@@ -1,6 +1,6 @@
 -- The shape of a table: it has one proof at most, and stands as the table is emptied, grows by a record and goes back.
 -- Assumes nothing.
-use Rattle.std.proofs.Common.{◌≡◌, ℕ, ◌+◌, ◌-◌, ◌*◌, ◌/◌, ◌<◌, ◌≤◌, true, false, cond, eqb, ltb, ◌⊎◌, List, [], ◌∷◌, ◌++◌, length, take, Some, None, Option, sym, refl, ap, ◌∙◌, subst, inl, inr, ⊎_elim, arith}
+use Rattle.std.proofs.Common.{◌≡◌, ℕ, ◌-◌, ◌<◌, ◌≤◌, true, eqb, ltb, List, [], ◌∷◌, ◌++◌, length, take, Some, None, Option, sym, refl, ap, ◌∙◌, subst, inl, inr, ⊎_elim, arith}
 use mathlib.Core.Logic.{∥∥₁_elim}
 use native.Mathlib.Bridge.{le_prop}
 use std.HLevel.{Π_prop, ⊥_prop}
@@ -14,7 +14,7 @@ use Rattle.records.specs.Keys.{blank, record_at}
 use Rattle.records.specs.Stores.{Store, store, handle, place, level}
 use Rattle.records.specs.Rules.{Placed, Well}
 use Rattle.records.specs.Changes.{Within, Grows, Added}
-use Rattle.records.specs.Steps.{Split, Fits, Lacks, Found, Fresh, Full, Adds, Back}
+use Rattle.records.specs.Steps.{Split, Fits, Lacks, Adds, Back}
 
 placed_prop : (s : Store) (p : ℕ) (r : Record) → IsProp (Placed s p r)
 placed_prop s p r a b =

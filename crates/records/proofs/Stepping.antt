@@ -1,6 +1,6 @@
 -- One single result: the table and the memo that it leaves keep what holds of the book, and what it was told is judged rightly.
 -- Assumes nothing.
-use Rattle.std.proofs.Common.{◌≡◌, ℕ, zero, suc, ◌<◌, ◌≤◌, ◌⊎◌, List, [], ◌∷◌, ◌++◌, length, Some, None, Ok, Err, Option, Result, sym, refl, ap, ◌∙◌, subst, inl, inr, ⊎_elim, arith}
+use Rattle.std.proofs.Common.{◌≡◌, ℕ, zero, suc, ◌<◌, ◌≤◌, ◌⊎◌, List, [], ◌∷◌, ◌++◌, Ok, Err, Option, Result, sym, ap, ◌∙◌, subst, inl, inr, ⊎_elim, arith}
 use Rattle.std.specs.List.{AllByRecursion}
 use Rattle.std.proofs.ByRecursion.{All-weaker}
 use Rattle.std.proofs.lemmas.Bool.{cases_lt}
@@ -11,16 +11,16 @@ use Rattle.netlist.specs.Parts.{part_count}
 use Rattle.records.specs.declared.fault.TableFault.{TableFault}
 use Rattle.records.specs.declared.fault.TableFault.TheVariants.{TooManyInputs, FewRows, NoSuchHandle, NoSuchInput, NoSuchCode, NoSuchOperator, NoSuchPattern, Full}
 use Rattle.records.specs.Stores.{Store, handle, value}
-use Rattle.records.specs.Rules.{Well, Sound, Lawful}
+use Rattle.records.specs.Rules.{Well, Sound}
 use Rattle.records.specs.Changes.{Grows}
 use Rattle.records.specs.Steps.{Back}
 use Rattle.memo.specs.Memos.{Pairs, NoPairs}
 use Rattle.records.specs.Counts.{PartIn, nth}
-use Rattle.records.specs.Outcomes.{Stopped, CutBack, Accepted, Shape, TruePairs, ResultOf, Overfull, Means}
-use Rattle.records.specs.Runs.{told, full, refused, answer_of, Entry, Book, book_signals, Step, step, booked, all_booked, Judged, AllJudged, Stands, Holds}
+use Rattle.records.specs.Outcomes.{Stopped, CutBack, Shape, TruePairs, ResultOf, Overfull, Means}
+use Rattle.records.specs.Runs.{answer_of, Book, book_signals, Step, step, booked, all_booked, Judged, AllJudged, Stands, Holds}
 use Rattle.records.proofs.Values.{lawful_grows, lawful_within, value_grows}
 use Rattle.records.proofs.Backs.{sound_back}
-use Rattle.records.proofs.Alike.{agree_refl, agree_sym, agree_trans}
+use Rattle.records.proofs.Alike.{agree_refl, agree_trans}
 use Rattle.records.proofs.Counting.{part_in_one, FoundIn, part_found, fewer_signals, found_later}
 use Rattle.records.proofs.Books.{booked_append, places_counted}
 

@@ -1,5 +1,5 @@
 -- One step of the walk over two handles, by what its two halves and the record made of them come to. Assumes nothing.
-use Rattle.std.proofs.Common.{◌≡◌, ℕ, zero, suc, ◌+◌, ◌^◌, ◌<◌, ◌≤◌, true, eqb, ◌⊎◌, [], ◌∷◌, is_err, Some, None, Ok, Err, Result, sym, ap, ◌∙◌, subst, inl, ⊎_elim, arith, pow_pos, pow-add}
+use Rattle.std.proofs.Common.{◌≡◌, ℕ, zero, suc, ◌+◌, ◌^◌, ◌<◌, ◌≤◌, true, eqb, [], ◌∷◌, is_err, Some, None, Ok, Err, Result, sym, ap, ◌∙◌, subst, inl, ⊎_elim, arith, pow_pos, pow-add}
 use Rattle.std.proofs.lemmas.Bool.{cases_lt, cases_eq, cond-true, cond-false, cond_both, eq-eqb, ne_eqb, false≢true}
 use Rattle.algebra.specs.Ops.{Ops}
 use Rattle.algebra.specs.Laws.{Laws}

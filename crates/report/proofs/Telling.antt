@@ -1,5 +1,5 @@
 -- What the findings of two netlists tell. Assumes nothing.
-use Rattle.std.proofs.Common.{◌≡◌, ℕ, true, false, cond, eqb, List, [], sym, refl, append-nil, arith}
+use Rattle.std.proofs.Common.{ℕ, true, false, cond, eqb, List, [], sym, append-nil, arith}
 use Rattle.algebra.specs.Laws.{Laws}
 use Rattle.algebra.specs.Five.{five, five_laws}
 use Rattle.algebra.specs.Two.{two, two_laws}

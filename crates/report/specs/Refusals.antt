@@ -1,6 +1,6 @@
 -- Which line or pair of two netlists is the first to be refused where there is room for so many different parts, in words of
 -- signals alone. Assumes nothing.
-use Rattle.std.specs.Prelude.{ℕ, suc, cond, ltb, List, [], ◌∷◌, ◌++◌, length, take, Some, None, Option, nat_lt}
+use Rattle.std.specs.Prelude.{ℕ, suc, cond, ltb, List, ◌++◌, length, take, Some, None, Option, nat_lt}
 use Rattle.algebra.specs.Ops.{Ops}
 use Rattle.netlist.specs.declared.line.Line.{Line}
 use Rattle.netlist.specs.declared.fault.NetlistFault.{NetlistFault}

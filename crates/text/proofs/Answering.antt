@@ -1,10 +1,9 @@
 -- What is printed for bytes, and that nothing else is, from a reading of them into any lists of the same length. Assumes
 -- nothing.
-use Rattle.std.proofs.Common.{◌≡◌, ℕ, ◌-◌, ◌<◌, ◌≤◌, List, ◌++◌, length, take, drop, Ok, Err, Result, sym, refl, ap, ◌∙◌, subst, arith}
+use Rattle.std.proofs.Common.{◌≡◌, ℕ, ◌-◌, List, ◌++◌, length, take, drop, Ok, Err, Result, sym, refl, ap, ◌∙◌, subst, arith}
 use lib.ListN.{length-replicate}
 use Rattle.std.proofs.lemmas.List.{take_at}
 use Rattle.std.proofs.lemmas.Bool.{cond-true, cond-false, eq-eqb, ne_eqb}
-use Rattle.algebra.specs.Ops.{Ops}
 use Rattle.algebra.specs.Five.{five}
 use Rattle.algebra.specs.Two.{two}
 use Rattle.netlist.specs.declared.line.Line.{Line}

@@ -4,7 +4,7 @@ use Rattle.netlist.specs.declared.line.Line.{Line}
 use Rattle.text.specs.declared.fault.RowFault.{RowFault}
 use Rattle.text.specs.declared.fault.RowFault.TheVariants.{Incomplete, Word, Field, OutOfTurn, Limits}
 use Rattle.text.specs.Faults.{order, FirstFailed}
-use Rattle.text.specs.Rows.{number_field, operand_field, row, Framed, word_of}
+use Rattle.text.specs.Rows.{number_field, operand_field, Framed, word_of}
 use Rattle.text.specs.Netlists.{kind_word, head_word, takes_one, second_operand, Readable, line_row, head_row, LineRow, HeadRow, Allowed, LineTest, HeadTest}
 use Rattle.text.proofs.Guessing.{same_number, same_operand}
 use Rattle.text.proofs.Words.{word_length, same_kind}

@@ -1,6 +1,6 @@
 -- What a program prints for bytes that are to be two netlists in a row: the row of the first refusal in reading them, or
 -- what is to be printed of the two. Assumes nothing.
-use Rattle.std.specs.Prelude.{ℕ, cond, List, replicate, Ok, Err, ◌==◌}
+use Rattle.std.specs.Prelude.{ℕ, cond, List, replicate, Err, ◌==◌}
 use Rattle.algebra.specs.Ops.{Ops}
 use Rattle.algebra.specs.Five.{five}
 use Rattle.algebra.specs.Two.{two}

@@ -1,5 +1,4 @@
-use Rattle.std.proofs.Common.{◌≡◌, ◌^◌, ◌<◌, ◌≤◌, sym, ap, subst, arith}
-use Rattle.diagram.specs.Views.{view}
+use Rattle.std.proofs.Common.{◌^◌, ◌<◌, sym, subst, arith}
 use Rattle.records.proofs.Shapes.{well}
 use Rattle.checking.proofs.grading.value_on.Goals as goal
 

@@ -1,20 +1,10 @@
-use Rattle.std.proofs.Common.{◌≡◌, ◌+◌, ◌<◌, ◌≤◌, ◌∷◌, ◌++◌, length, get_or, drop, Ok, Err, sym, refl, ap, ◌∙◌, subst, arith}
+use Rattle.std.proofs.Common.{◌≡◌, ◌<◌, ◌≤◌, ◌∷◌, ◌++◌, length, Err, sym, refl, ap, ◌∙◌, subst, arith}
 use Rattle.std.proofs.lemmas.Result.{err_from_is_err_and}
-use Rattle.netlist.specs.Signals.{joined}
-use Rattle.netlist.specs.Lines.{outs, out_count}
-use Rattle.netlist.specs.Findings.{finding}
-use Rattle.records.specs.Faults.{join_refusal}
-use Rattle.records.specs.Outcomes.{Shape, Meaning, TruePairs}
-use Rattle.records.specs.Rules.{Sound}
+use Rattle.netlist.specs.Lines.{out_count}
 use Rattle.records.specs.Runs.{Kept}
-use Rattle.records.specs.Stores.{value}
 use Rattle.diagram.specs.Views.{view, room}
-use Rattle.records.proofs.Adds.{grows_trans}
 use Rattle.records.proofs.Shapes.{well}
-use Rattle.checking.specs.Checks.{handle_of}
 use Rattle.comparison.specs.Compares.{pairs_event, PairsChecked}
-use Rattle.laying.proofs.Lines.{outcome, join_refuses}
-use Rattle.laying.proofs.Layings.{back_grows}
 use Rattle.comparison.proofs.Pairings.{PairDue, checking_none, out_inside, out_at, checked_more, checked_refused, refused_leaves, all_checked, pair_ok, pair_err}
 use Rattle.comparison.proofs.pairing.check_pairs.Goals as goal
 

@@ -1,5 +1,4 @@
-use Rattle.std.proofs.Common.{◌≡◌, [], length, drop, sym, ◌∙◌, arith}
-use Rattle.netlist.specs.Lines.{outs}
+use Rattle.std.proofs.Common.{length, drop, sym, ◌∙◌, arith}
 use Rattle.netlist.proofs.OutLines.{outs_other, outs_all}
 use Rattle.laying.specs.Lays.{blank_line}
 use Rattle.comparison.proofs.pairing.next_out.Goals as goal

@@ -1,4 +1,4 @@
-use Rattle.std.proofs.Common.{◌≡◌, T, Some, None, sym, ap, ◌∙◌, subst}
+use Rattle.std.proofs.Common.{T, Some, None, sym, subst}
 use Rattle.records.proofs.Shapes.{well}
 use Rattle.diagram.specs.Shortcuts.{Gives}
 use Rattle.diagram.proofs.Telling.{short_same, short_constant}

@@ -2,7 +2,6 @@ use Rattle.std.proofs.Common.{◌+◌, ◌≤◌, min, length, sym, refl, ap, �
 use Rattle.std.proofs.lemmas.Bool.{ltb-true}
 use Rattle.std.proofs.lemmas.Bool.Decides.{when_true}
 use Rattle.records.specs.Makings.{From}
-use Rattle.records.specs.Marks.{reach_of}
 use Rattle.records.specs.Rules.{settled_mask}
 use Rattle.records.specs.Stores.{level}
 use Rattle.diagram.specs.Views.{view, room}

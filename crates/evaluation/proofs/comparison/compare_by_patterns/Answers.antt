@@ -1,4 +1,4 @@
-use Rattle.std.proofs.Common.{◌≡◌, ◌-◌, ◌++◌, length, drop, sym, refl, ap, ◌∙◌, arith}
+use Rattle.std.proofs.Common.{◌≡◌, ◌-◌, ◌++◌, drop, ap, ◌∙◌, arith}
 use Rattle.netlist.specs.Lines.{line_signals, outs}
 use Rattle.netlist.specs.Findings.{findings}
 use Rattle.netlist.proofs.LineSignals.{signals_length}

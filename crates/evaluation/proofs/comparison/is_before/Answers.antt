@@ -1,4 +1,4 @@
-use Rattle.std.proofs.Common.{◌≡◌, sym, refl, ap, ◌∙◌}
+use Rattle.std.proofs.Common.{sym, ◌∙◌}
 use Rattle.netlist.proofs.BeforeOrders.{before_than, before_grade, before_other, before_none}
 use Rattle.evaluation.proofs.comparison.is_before.Goals as goal
 

@@ -1,5 +1,5 @@
-use Rattle.std.proofs.Common.{◌≡◌, ◌+◌, ◌<◌, ◌≤◌, length, get_or, drop, set, sym, refl, ap, ◌∙◌, subst, arith}
-use Rattle.netlist.proofs.OutLines.{Kept, kept_out, kept_other, kept_all}
+use Rattle.std.proofs.Common.{◌≡◌, ◌<◌, ◌≤◌, length, drop, refl, subst, arith}
+use Rattle.netlist.proofs.OutLines.{kept_out, kept_other, kept_all}
 use Rattle.evaluation.proofs.comparison.keep_outs.Goals as goal
 use Rattle.evaluation.proofs.comparison.keep_outs.Goals.{then-line-eq-OUT, else-line-eq-OUT}
 

@@ -1,4 +1,4 @@
-use Rattle.std.proofs.Common.{◌≡◌, length, sym, refl, ap, ◌∙◌}
+use Rattle.std.proofs.Common.{ap, ◌∙◌}
 use lib.ListN.{length-map}
 use Rattle.netlist.specs.Lines.{line_signals, outs}
 use Rattle.netlist.proofs.LineSignals.{signals_length}

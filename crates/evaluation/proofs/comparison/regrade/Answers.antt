@@ -1,4 +1,4 @@
-use Rattle.std.proofs.Common.{◌≡◌, sym, refl, ap, ◌∙◌}
+use Rattle.std.proofs.Common.{sym, ap, ◌∙◌}
 use Rattle.netlist.specs.declared.finding.Finding.TheVariants.{Differs}
 use Rattle.netlist.specs.Orders.{before}
 use Rattle.netlist.proofs.Grading.{still_clean, first_differs, graver, not_graver}

@@ -1,4 +1,4 @@
-use Rattle.std.proofs.Common.{◌≡◌, sym, refl, ap, ◌∙◌, arith}
+use Rattle.std.proofs.Common.{arith}
 use Rattle.std.proofs.lemmas.List.{get_or_default}
 use Rattle.netlist.proofs.PairGrades.{upto_none, upto_more, upto_all}
 use Rattle.evaluation.proofs.comparison.regrade_pairs.Goals as goal

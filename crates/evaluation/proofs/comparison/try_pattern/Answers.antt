@@ -1,4 +1,4 @@
-use Rattle.std.proofs.Common.{◌≡◌, ◌+◌, ◌-◌, ◌≤◌, length, take, sym, refl, ap, ◌∙◌, arith, length-take}
+use Rattle.std.proofs.Common.{◌≡◌, ◌+◌, ◌-◌, length, take, sym, ap, ◌∙◌, arith, length-take}
 use Rattle.netlist.specs.Lines.{line_signals, outs, out_count}
 use Rattle.netlist.specs.Evaluations.{values_at}
 use Rattle.netlist.specs.Findings.{zipped, finding_below}

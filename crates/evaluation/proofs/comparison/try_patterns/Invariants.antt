@@ -1,4 +1,4 @@
-use Rattle.std.proofs.Common.{◌≡◌, ℕ, ◌+◌, ◌^◌, ◌<◌, ◌≤◌, length, get_or, drop}
+use Rattle.std.proofs.Common.{◌≡◌, ℕ, ◌+◌, ◌<◌, length, get_or, drop}
 use Rattle.netlist.specs.declared.finding.Finding.TheVariants.{Clean}
 use Rattle.netlist.specs.Findings.{findings_below}
 use Rattle.evaluation.proofs.comparison.try_patterns.Given as goal

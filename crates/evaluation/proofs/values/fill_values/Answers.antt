@@ -1,4 +1,4 @@
-use Rattle.std.proofs.Common.{◌≡◌, ◌<◌, length, take, sym, refl, ap, ◌∙◌, arith}
+use Rattle.std.proofs.Common.{◌≡◌, ◌<◌, length, take, sym, refl, ◌∙◌, arith}
 use Rattle.std.proofs.lemmas.List.{length-take-le, get_or_default}
 use Rattle.netlist.specs.Lines.{line_signals}
 use Rattle.netlist.proofs.FirstFaults.{line_accepted, fault_passed}

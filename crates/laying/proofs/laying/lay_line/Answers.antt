@@ -1,6 +1,5 @@
-use Rattle.std.proofs.Common.{◌≡◌, take, sym, refl, ap, ◌∙◌, subst}
+use Rattle.std.proofs.Common.{take, sym, refl, ap, ◌∙◌}
 use Rattle.netlist.specs.Faults.{line_fault}
-use Rattle.diagram.specs.Views.{view, room}
 use Rattle.records.proofs.Shapes.{well}
 use Rattle.diagram.proofs.Fulls.{table_fits}
 use Rattle.laying.proofs.Layings.{refused_kept}

@@ -1,6 +1,6 @@
-use Rattle.std.proofs.Common.{◌≡◌, ◌<◌, ◌≤◌, length, get_or, take, Ok, sym, refl, ap, ◌∙◌, subst, inl, inr, arith}
+use Rattle.std.proofs.Common.{◌≤◌, length, get_or, take, sym, refl, subst, inl, inr, arith}
 use Rattle.std.proofs.lemmas.List.{length-take-le, get_or-take}
-use Rattle.diagram.specs.Views.{view, room}
+use Rattle.diagram.specs.Views.{view}
 use Rattle.records.specs.Stores.{value}
 use Rattle.records.specs.Faults.{input_refusal, constant_refusal, turn_refusal, join_refusal}
 use Rattle.records.proofs.Adds.{grows_refl}

@@ -1,4 +1,4 @@
-use Rattle.std.proofs.Common.{◌≡◌, sym, refl, ap, ◌∙◌, arith}
+use Rattle.std.proofs.Common.{sym, ◌∙◌}
 use Rattle.std.proofs.lemmas.List.{get_or_default}
 use Rattle.netlist.proofs.FirstFaults.{fault_passed, fault_found, fault_none}
 use Rattle.netlist.proofs.checks.check_lines.Goals as goal

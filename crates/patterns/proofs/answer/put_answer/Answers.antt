@@ -1,4 +1,4 @@
-use Rattle.std.proofs.Common.{◌≡◌, ◌-◌, take, sym, refl, ap, ◌∙◌, subst}
+use Rattle.std.proofs.Common.{◌≡◌, ◌-◌, take, sym, ap, ◌∙◌, subst}
 use Rattle.text.specs.Answers.{Prints, misreading}
 use Rattle.text.proofs.Answering.{is_two, is_five, prints_fault, only_fault, prints_pair, only_pair}
 use Rattle.patterns.specs.Answers.{compared}

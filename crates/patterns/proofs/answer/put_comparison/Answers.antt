@@ -1,4 +1,4 @@
-use Rattle.std.proofs.Common.{◌≡◌, ◌-◌, ◌^◌, ◌++◌, length, take, sym, refl, ap, ◌∙◌, arith}
+use Rattle.std.proofs.Common.{◌-◌, ◌^◌, ◌++◌, take, ap, ◌∙◌}
 use Rattle.netlist.specs.Lines.{out_count}
 use Rattle.text.specs.declared.writer.Summary.TheVariants.{Tried}
 use Rattle.text.specs.Reports.{summary_row, findings_text}

@@ -1,6 +1,5 @@
-use Rattle.std.proofs.Common.{◌≡◌, length, sym, refl, ap, ◌∙◌, arith}
+use Rattle.std.proofs.Common.{length, ap, ◌∙◌, arith}
 use Rattle.std.proofs.lemmas.List.{take_at}
-use Rattle.patterns.specs.Answers.{too_many_inputs}
 use Rattle.patterns.proofs.answer.put_too_many.Goals as goal
 
 pub returns : goal.returns

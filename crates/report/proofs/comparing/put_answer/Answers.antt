@@ -1,6 +1,4 @@
-use Rattle.std.proofs.Common.{◌≡◌, ◌-◌, length, take, sym, refl, ap, ◌∙◌, subst, arith}
-use Rattle.algebra.specs.Five.{five}
-use Rattle.algebra.specs.Two.{two}
+use Rattle.std.proofs.Common.{◌-◌, length, take, refl, ap}
 use Rattle.diagram.specs.Views.{room}
 use Rattle.text.proofs.Answering.{is_two, is_five, prints_fault, only_fault, prints_pair, only_pair}
 use Rattle.text.proofs.Writing.{written_as}

@@ -1,4 +1,4 @@
-use Rattle.std.proofs.Common.{◌≡◌, ◌-◌, length, Ok, Err, sym, ap, ◌∙◌, arith}
+use Rattle.std.proofs.Common.{◌-◌, length, Ok, Err, sym, ap, ◌∙◌, arith}
 use Rattle.netlist.proofs.OutLines.{few_outs}
 use Rattle.diagram.specs.Views.{view, room}
 use Rattle.text.proofs.Writing.{written_as}

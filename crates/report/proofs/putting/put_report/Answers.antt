@@ -1,4 +1,4 @@
-use Rattle.std.proofs.Common.{◌≡◌, ◌+◌, ◌*◌, ◌≤◌, ◌++◌, length, sym, refl, ap, ◌∙◌, subst, arith}
+use Rattle.std.proofs.Common.{◌+◌, ◌*◌, ◌≤◌, ◌++◌, length, subst, arith}
 use Rattle.text.specs.declared.writer.Summary.TheVariants.{Report}
 use Rattle.text.specs.Reports.{summary_row, findings_text, Written}
 use Rattle.text.proofs.Found.{summary_size}

@@ -1,4 +1,4 @@
-use Rattle.std.proofs.Common.{◌≡◌, ◌+◌, ◌-◌, ap, ◌∙◌, arith}
+use Rattle.std.proofs.Common.{◌+◌, ◌-◌, arith}
 use Rattle.comparison.proofs.Reruns.{span_cut}
 use Rattle.comparison.proofs.replaying.calls.part.Goals as goal
 

@@ -1,6 +1,5 @@
-use Rattle.std.proofs.Common.{◌≡◌, ◌+◌, ◌-◌, ◌<◌, length, get_or, vec_items, sym, ap, ◌∙◌, arith}
+use Rattle.std.proofs.Common.{◌≡◌, ◌+◌, ◌<◌, length, get_or, vec_items, arith}
 use Rattle.std.proofs.lemmas.List.{get_or_read}
-use Rattle.diagram.specs.Chains.{chain}
 use Rattle.diagram.specs.Uses.{in_use}
 use Rattle.diagram.proofs.Links.{headed, linked, pushed}
 use Rattle.diagram.proofs.Held.{held}

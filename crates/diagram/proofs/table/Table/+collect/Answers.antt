@@ -1,11 +1,11 @@
-use Rattle.std.proofs.Common.{◌≡◌, ℕ, ◌*◌, ◌%◌, ◌^◌, ◌<◌, ◌≤◌, true, length, sym, refl, ap, ◌∙◌, subst, arith, rules}
+use Rattle.std.proofs.Common.{◌*◌, ◌%◌, ◌^◌, ◌<◌, length, sym, refl, ap, ◌∙◌, subst, arith, rules}
 use lib.Bits.{bit_or}
 use Rattle.std.proofs.lemmas.Bool.{ltb-true, ltb-false}
-use Rattle.records.specs.Stores.{handle, place, up}
-use Rattle.records.specs.Supports.{Covers, More}
+use Rattle.records.specs.Stores.{handle}
+use Rattle.records.specs.Supports.{Covers}
 use Rattle.diagram.specs.Views.{view}
 use Rattle.records.proofs.Shapes.{well, place_below}
-use Rattle.records.proofs.Matter.{more_same, collected_none, covers_constant, covers_marked, covers_rest, own_more, covers_place, collected_step, done_more, done_set}
+use Rattle.records.proofs.Matter.{collected_none, covers_constant, covers_marked, covers_rest, own_more, covers_place, collected_step, done_more, done_set}
 use Rattle.diagram.proofs.table.Table.+collect.Goals as goal
 
 pub returns-then-is_constant : goal.returns-then-is_constant

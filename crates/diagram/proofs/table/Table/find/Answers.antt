@@ -1,4 +1,4 @@
-use Rattle.std.proofs.Common.{◌≡◌, ◌-◌, ◌^◌, ◌≤◌, true, false, ltb, Some, None, Ok, Option, Result, sym, ap, ◌∙◌, arith, pow_mono}
+use Rattle.std.proofs.Common.{◌≡◌, ◌-◌, ◌≤◌, true, false, ltb, None, Ok, sym, ap, ◌∙◌, arith, pow_mono}
 use Rattle.std.proofs.lemmas.Bool.{lt-ltb}
 use Rattle.netlist.specs.Findings.{first}
 use Rattle.records.specs.declared.fault.TableFault.TheVariants.{NoSuchHandle, NoSuchCode}

@@ -1,4 +1,4 @@
-use Rattle.std.proofs.Common.{◌≡◌, ◌≤◌, subst, arith}
+use Rattle.std.proofs.Common.{◌≤◌, subst}
 use Rattle.diagram.specs.Views.{view, room}
 use Rattle.records.proofs.Events.{kept_join}
 use Rattle.records.proofs.Shapes.{well}

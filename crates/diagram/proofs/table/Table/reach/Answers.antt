@@ -1,9 +1,7 @@
 use Rattle.std.proofs.Common.{◌≡◌, true, Ok, sym, ap, ◌∙◌}
-use Rattle.records.specs.Stores.{up}
 use Rattle.records.specs.Rules.{lawful}
 use Rattle.diagram.specs.Views.{view}
 use Rattle.records.proofs.Shapes.{well}
-use Rattle.records.proofs.Reaches.{reach_right}
 use Rattle.records.proofs.Lookups.{reach_decides}
 use Rattle.diagram.proofs.table.Table.reach.Goals as goal
 

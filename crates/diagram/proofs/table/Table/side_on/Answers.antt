@@ -1,5 +1,4 @@
 use Rattle.std.proofs.Common.{arith}
-use Rattle.diagram.specs.Views.{view}
 use Rattle.records.proofs.Shapes.{well}
 use Rattle.records.proofs.Lookups.{side_taken, side_left}
 use Rattle.diagram.proofs.table.Table.side_on.Goals as goal

@@ -1,4 +1,4 @@
-use Rattle.std.proofs.Common.{◌≡◌, ◌<◌, ◌≢◌, length, vec_items, arith, below_more}
+use Rattle.std.proofs.Common.{◌<◌, ◌≢◌, length, vec_items, arith, below_more}
 use Rattle.std.proofs.lemmas.List.{get_or-set_same, get_or-set_other}
 use Rattle.memo.specs.Rows.{blank_row, Past}
 use Rattle.memo.proofs.Epochs.{past_set, past_none, past_more, none_past}

@@ -1,5 +1,5 @@
-use Rattle.std.proofs.Common.{◌≡◌, sym, refl, ap, ◌∙◌, subst, arith, rules}
-use Rattle.report.specs.Limits.{lines_of, places_of}
+use Rattle.std.proofs.Common.{◌∙◌, subst, rules}
+use Rattle.report.specs.Limits.{places_of}
 use Rattle.report.specs.Reports.{Printed}
 use Rattle.report.proofs.Telling.{tells}
 use Rattle.report.proofs.workspace.Workspace.report.Goals as goal
