@@ -1,14 +1,14 @@
 -- A list of calls that is known call by call, with the states between, seen as no more than its run. Assumes nothing.
-use Rattle.std.specs.Prelude.{ℕ, List}
+use Rattle.std.specs.Prelude.{ℕ, List, ◌∷◌}
 use Rattle.algebra.specs.Ops.{Ops}
 use Rattle.netlist.specs.declared.line.Line.{Line}
-use Rattle.records.specs.Runs.{Run, Event}
+use Rattle.records.specs.Runs.{Run, Event, Kept}
 use Rattle.checking.specs.declared.checking.Checked.{Checked}
 use Rattle.comparison.specs.declared.replaying.Call.{Call}
 use Rattle.comparison.specs.declared.replaying.Told.{Told}
 use Rattle.comparison.specs.Replays.{Made, Replayed, Ran}
 use Rattle.comparison.specs.Replays as replays
-use Rattle.comparison.specs.States.{State, MadeBetween, ReplayedFrom, RanFrom}
+use Rattle.comparison.specs.States.{State, MadeBetween, Called, ReplayedFrom, RanFrom}
 use Rattle.comparison.specs.States as states
 
 made_alone : {o : Ops} {work : ℕ} {ls : List Line} {s t : State} {c : Call} {a : Told} {e : Event} → MadeBetween o work ls s c a e t → Made ls c a e
@@ -19,6 +19,10 @@ made_alone (states.join k x y r z) = replays.join k _ _ r
 made_alone (states.check x y r z) = replays.check _ _ r
 made_alone (states.lay a r x) = replays.lay a _ r
 made_alone (states.compare a b r x) = replays.compare a b _ _ r
+
+pub kept_alone : {o : Ops} {room work : ℕ} {ls : List Line} {s t : State} {c : Call} {a : Told} → Called o room work ls s c a t
+    → (run : Run) → Kept o room run s.table s.memo → (e : Event) × Made ls c a e × Kept o room (e ∷ run) t.table t.memo
+kept_alone called run kept = (called.0, made_alone called.1, called.2 run kept)
 
 replayed_alone : {o : Ops} {work : ℕ} {ls : List Line} {s t : State} {cs : List Call} {ts : List Told} {run : Run} {hs : List ℕ} {fs : List Checked}
     → ReplayedFrom o work ls s cs ts run hs fs t → Replayed ls cs ts run

@@ -9,4 +9,4 @@ pub use checking::{Checked, check};
 pub use comparing::compare;
 pub use faults::{CompareFault, LayFault, LineReason, LineRefusal, PairRefusal};
 pub use laying::lay;
-pub use replaying::{Call, ReplayFault, Span, Told, replay};
+pub use replaying::{Call, ReplayFault, Span, Told, replay, replay_apart};

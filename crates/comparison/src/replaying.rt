@@ -5,7 +5,7 @@ use faults::{CompareFault, LayFault};
 
 mod calls;
 
-pub use calls::replay;
+pub use calls::{replay, replay_apart};
 
 // So many lines of a list, from a place on; what lies past its end is left out.
 #[derive(Clone, Copy)]

@@ -12,5 +12,5 @@ mod table;
 mod walk;
 
 pub use memo::{Memo, NoMemo, RowMemo};
-pub use records::{Record, Row, TableFault};
+pub use records::{Record, Row, TableFault, counting_stands, one_number_stands};
 pub use table::Table;

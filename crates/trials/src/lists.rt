@@ -9,7 +9,7 @@ use crate::making::{Frame, any_netlist, spoil};
 use crate::netlists::{FRAME, UNCHECKED, any_room, any_second, frame_of};
 use crate::printing::{print_calls, print_lines};
 use algebra::Algebra;
-use comparison::{Call, Checked, Told, replay};
+use comparison::{Call, Checked, Told, replay_apart};
 use diagram::{Memo, Row, Table};
 use netlist::Line;
 use std::alloc::{AllocError, Global};
@@ -101,7 +101,7 @@ fn try_calls<'a, G: Algebra, M: Memo>(
 ) -> Result<(Lent, bool), AllocError> {
     let mut table = Table::new(book.heap, plan.room)?;
     let mut lent = lend(book.heap, plan, calls.len())?;
-    let replayed = replay(
+    let replayed = replay_apart(
         &mut table,
         algebra,
         memo,
@@ -144,7 +144,7 @@ fn refusal<G: Algebra, M: Memo>(
 ) -> Result<u8, AllocError> {
     let mut table = Table::new(book.heap, plan.room)?;
     let mut lent = lend(book.heap, plan, told)?;
-    let replayed = replay(
+    let replayed = replay_apart(
         &mut table,
         algebra,
         memo,

@@ -96,8 +96,37 @@ fn make_call<G: Algebra, M: Memo>(
 }
 
 // Starts a table and makes the calls in order, each with any numbers as handles, and writes what each was told. Each lay and
-// compare has its own handles and rows, after those of the earlier ones, for as long as the lists last.
+// compare is lent the whole lists for handles and findings, so that the next one may write over its entries.
 pub fn replay<G: Algebra, M: Memo>(
+    table: &mut Table,
+    algebra: &G,
+    memo: &mut M,
+    rows: &mut [Row],
+    inputs: u8,
+    lines: &[Line],
+    calls: &[Call],
+    handles: &mut [u32],
+    found: &mut [Checked],
+    told: &mut [Told],
+) -> Result<(), ReplayFault>
+    ensures answer { ReplayAnswer G.ops (room table.old) inputs lines.now calls.now (view table.old) (view table.new) (M.recalls memo.old) (M.recalls memo.new) told.old told.new result }
+    ensures room { room table.new ≡ room table.old }
+{
+    if told.len() < calls.len() {
+        return Err(ReplayFault::ShortList);
+    }
+    if let Err(fault) = table.start(memo, inputs) {
+        return Err(ReplayFault::Table(fault));
+    }
+    for (number, call) in calls.iter().enumerate() {
+        told[number] = make_call(table, algebra, memo, rows, lines, handles, found, *call);
+    }
+    Ok(())
+}
+
+// The same, but each lay and compare has its own handles and rows, after those of the earlier ones, for as long as the lists
+// last. So what each of them wrote is there at the end.
+pub fn replay_apart<G: Algebra, M: Memo>(
     table: &mut Table,
     algebra: &G,
     memo: &mut M,
