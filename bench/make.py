@@ -101,46 +101,44 @@ def word(net, first, n):
     return [net.input(first + n - 1 - i) for i in range(n)]
 
 
-def ripple(n, kept):
-    """A ripple adder, with the lowest `kept` sum bits."""
-    net = Netlist(2 * n, 2)
-    a, b = word(net, 0, n), word(net, n, n)
-    sums, c = [], None
-    for i in range(n):
-        g, t = net.both(a[i], b[i]), net.differ(a[i], b[i])
-        if c is None:
-            sums, c = [t], g
-            continue
-        m = net.both(t, c)
-        if i < kept:
-            sums.append(net.both(net.either(t, c), net.inv(m)))
-        c = net.either(g, m)
-    for s in sums + [c, c]:
-        net.out(s)
-    return net
+def ripple_bit(net, a, b, c, kept):
+    """The sum and the carry of one bit; the lowest bit has no carry into it."""
+    g, t = net.both(a, b), net.differ(a, b)
+    if c is None:
+        return t, g
+    m = net.both(t, c)
+    return net.both(net.either(t, c), net.inv(m)) if kept else None, net.either(g, m)
 
 
-def by_majority(n, kept):
+def majority_bit(net, a, b, c, kept):
     """The same by other gates, with the carry by majority."""
+    g, o = net.both(a, b), net.either(a, b)
+    t = net.both(o, net.inv(g))
+    if c is None:
+        return t, g
+    s = net.both(net.either(t, c), net.inv(net.both(t, c))) if kept else None
+    return s, net.either(g, net.both(o, c))
+
+
+def by_bits(n, kept, bit, top):
+    """An adder bit by bit, with the lowest `kept` sums, the carry, and what `top` makes of the highest bits and the carry."""
     net = Netlist(2 * n, 2)
     a, b = word(net, 0, n), word(net, n, n)
     sums, c = [], None
     for i in range(n):
-        g, o = net.both(a[i], b[i]), net.either(a[i], b[i])
-        t = net.both(o, net.inv(g))
-        if c is None:
-            sums, c = [t], g
-            continue
-        if i < kept:
-            sums.append(net.both(net.either(t, c), net.inv(net.both(t, c))))
-        c = net.either(g, net.both(o, c))
-    for s in sums + [c, net.both(a[n - 1], b[n - 1])]:
+        s, c = bit(net, a[i], b[i], c, i < kept)
+        sums.append(s)
+    for s in [s for s in sums if s is not None] + [c, top(net, a[-1], b[-1], c)]:
         net.out(s)
     return net
+
+
+def ripple(n, kept):
+    return by_bits(n, kept, ripple_bit, lambda net, a, b, c: c)
 
 
 def by_select(n, kept):
-    """The same in blocks of four, each made for both carries, of which the carry into the block chooses."""
+    """An adder in blocks of four bits, each made for both carries, of which the carry into the block chooses."""
     net = Netlist(2 * n, 2)
     a, b = word(net, 0, n), word(net, n, n)
     zero, unit = net.const("0"), net.const("1")
@@ -169,7 +167,7 @@ def by_select(n, kept):
 def adder(n, kept):
     """A ripple adder against one with majority carries: `kept` sum bits and the carry out are clean pairs. The last
     pair has a planted fault: the carry out, against a guess from the two highest bits."""
-    return ripple(n, kept), by_majority(n, kept)
+    return ripple(n, kept), by_bits(n, kept, majority_bit, lambda net, a, b, c: net.both(a, b))
 
 
 def select(n, kept):

@@ -1,5 +1,5 @@
-ghost use Rattle.std.specs.Prelude.{◌≡◌, min, IfOk};
-ghost use Rattle.report.specs.Limits.{lines_of, places_of};
+ghost use Rattle.std.specs.Prelude.{◌≡◌, ◌^◌, min, IfOk};
+ghost use Rattle.report.specs.Limits.{lines_of, places_of, memo_rows_of};
 
 use super::{Limits, Workspace};
 use comparison::Checked;
@@ -35,7 +35,7 @@ const UNCHECKED: Checked = Checked {
 impl Workspace {
     // A workspace of some limits. All its memory is asked for here.
     pub fn new(heap: Global, limits: Limits) -> Result<Workspace, AllocError>
-        ensures { IfOk result (λ w. (lines_of w ≡ min limits.lines 99999) × (places_of w ≡ min limits.places 1048576)) }
+        ensures { IfOk result (λ w. (lines_of w ≡ min limits.lines 99999) × (places_of w ≡ min limits.places 1048576) × (memo_rows_of w ≡ 2 ^ min limits.memo_bits 22)) }
     {
         let lines = limits.lines.min(MOST_LINES);
         let table = Table::new(heap, limits.places)?;
@@ -60,7 +60,7 @@ impl Workspace {
 
     // A workspace for netlists of at most 512 lines, with a table of 1,024 places and a memo of 256 rows.
     pub fn standard(heap: Global) -> Result<Workspace, AllocError>
-        ensures { IfOk result (λ w. (lines_of w ≡ 512) × (places_of w ≡ 1024)) }
+        ensures { IfOk result (λ w. (lines_of w ≡ 512) × (places_of w ≡ 1024) × (memo_rows_of w ≡ 256)) }
     {
         let limits = Limits {
             lines: 512,
@@ -73,7 +73,7 @@ impl Workspace {
     // A workspace for netlists of as many lines as a HEAD row can count, with a table of 1,048,576 places and a memo of
     // 1,048,576 rows.
     pub fn wide(heap: Global) -> Result<Workspace, AllocError>
-        ensures { IfOk result (λ w. (lines_of w ≡ 99999) × (places_of w ≡ 1048576)) }
+        ensures { IfOk result (λ w. (lines_of w ≡ 99999) × (places_of w ≡ 1048576) × (memo_rows_of w ≡ 1048576)) }
     {
         let limits = Limits {
             lines: MOST_LINES,
