@@ -98,6 +98,27 @@ pub data ReplayedFrom (o : Ops) (work : ℕ) (ls : List Line) (s : State) : List
       → ReplayedFrom o work ls s (cs ++ c ∷ []) (ts ++ a ∷ []) (e ∷ run)
       (hs ++ take (handles_for ls c) u.handles) (fs ++ take (rows_for ls c) u.found) (past ls c u)
 
+-- a list of calls from the state s, each on the whole lists as the earlier ones left them: what each was told, their run, and
+-- the state after them
+pub data ReplayedOver (o : Ops) (work : ℕ) (ls : List Line) (s : State) : List Call → List Told → Run → State → Type 0 where
+  no_call : ReplayedOver o work ls s [] [] [] s
+  one_call : {cs : List Call} {ts : List Told} {run : Run} {t u : State} (c : Call) (a : Told) (e : Event)
+      → ReplayedOver o work ls s cs ts run t → MadeBetween o work ls t c a e u
+      → ReplayedOver o work ls s (cs ++ c ∷ []) (ts ++ a ∷ []) (e ∷ run) u
+
+-- the same from a start with n inputs on, where table, memo and lists were s before it and are t now
+pub record RanOver (o : Ops) (room n work : ℕ) (ls : List Line) (cs : List Call) (s t : State) (old new : List Told) : Type 0 where
+  -- the memo as the start left it
+  pub memo : Pairs
+  pub emptied : NoPairs memo
+  pub run : Run
+  pub replayed : ReplayedOver o work ls (state (store n []) memo s.handles s.found) cs (take (length cs) new) run t
+  pub rest : drop (length cs) new ≡ drop (length cs) old
+  pub inputs : t.table.inputs ≡ n
+  -- provided each handle given to an accepted call was an answer since the start, the law holds; and calls may follow
+  pub found : Provided o n run → Found o n room t.table.used run
+  pub kept : Kept o room run t.table t.memo
+
 -- the calls from a start with n inputs on, where table, memo and lists were s before it and are t now
 pub record RanFrom (o : Ops) (room n work : ℕ) (ls : List Line) (cs : List Call) (s t : State) (old new : List Told) : Type 0 where
   -- the memo as the start left it
@@ -117,6 +138,10 @@ pub record RanFrom (o : Ops) (room n work : ℕ) (ls : List Line) (cs : List Cal
   -- provided each handle given to an accepted call was an answer since the start, the law holds; and calls may follow
   pub found : Provided o n run → Found o n room t.table.used run
   pub kept : Kept o room run t.table t.memo
+
+abbrev pub ReplayCalls : Ops → ℕ → ℕ → ℕ → List Line → List Call → State → State → List Told → List Told → Result (Unit {0}) ReplayFault → Type 0
+ReplayCalls o room n work ls cs s t old new (Ok _) = RanOver o room n work ls cs s t old new
+ReplayCalls o room n work ls cs s t old new (Err f) = (t ≡ s) × (new ≡ old)
 
 abbrev pub ReplayLeaves : Ops → ℕ → ℕ → ℕ → List Line → List Call → State → State → List Told → List Told → Result (Unit {0}) ReplayFault → Type 0
 ReplayLeaves o room n work ls cs s t old new (Ok _) = (length cs ≤ length old) × (n ≤ 60) × RanFrom o room n work ls cs s t old new

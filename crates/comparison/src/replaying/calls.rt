@@ -1,7 +1,7 @@
 ghost use Rattle.std.specs.Prelude.{◌≡◌, min, length, drop};
 ghost use Rattle.diagram.specs.Views.{view, room};
 ghost use Rattle.comparison.specs.Replays.{span_of, ReplayAnswer, replay_fault_number};
-ghost use Rattle.comparison.specs.States.{handles_for, rows_for, state, Called, ReplayLeaves};
+ghost use Rattle.comparison.specs.States.{handles_for, rows_for, state, Called, ReplayCalls, ReplayLeaves};
 
 use super::{Call, ReplayFault, Span, Told};
 use crate::comparing::compare;
@@ -110,6 +110,7 @@ pub fn replay<G: Algebra, M: Memo>(
     told: &mut [Told],
 ) -> Result<(), ReplayFault>
     ensures answer { ReplayAnswer G.ops (room table.old) inputs lines.now calls.now (view table.old) (view table.new) (M.recalls memo.old) (M.recalls memo.new) told.old told.new result }
+    ensures calls { ReplayCalls G.ops (room table.old) inputs (length rows.old) lines.now calls.now (state (view table.old) (M.recalls memo.old) handles.old found.old) (state (view table.new) (M.recalls memo.new) handles.new found.new) told.old told.new result }
     ensures room { room table.new ≡ room table.old }
 {
     if told.len() < calls.len() {
