@@ -14,7 +14,8 @@ use crate::values::fill_values;
 use algebra::{Algebra, Op};
 use netlist::{ComparisonFault, Difference, Finding, Line, Pattern, check_lines, count_pairs};
 
-// Moves the values of the OUT lines to the front, in order.
+// Moves the values of the OUT lines to the front, in order. In place, so the next free place is counted: a slice has no
+// `retain`.
 fn keep_outs(lines: &[Line], values: &mut [u8])
     requires { length lines.now ≤ length values.old }
     ensures kept { take (out_count lines.now) values.new ≡ outs lines.now values.old }

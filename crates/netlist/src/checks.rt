@@ -4,7 +4,7 @@ ghost use Rattle.netlist.specs.Lines.{out_count};
 ghost use Rattle.netlist.specs.Faults.{line_fault, first_fault};
 ghost use Rattle.netlist.specs.Counts.{Counts, CountsRefused};
 
-use crate::fault::{CountFault, LineFault, NetlistFault};
+use crate::fault::{CountFault, LineFault, Located, NetlistFault};
 use crate::kind::Kind;
 use crate::line::Line;
 use algebra::Algebra;
@@ -42,12 +42,10 @@ pub fn check_lines<G: Algebra>(algebra: &G, inputs: u8, lines: &[Line]) -> Resul
         (λ e. first_fault G.ops inputs 0 lines.now ≡ Some e) }
 {
     for (number, line) in lines.iter().enumerate() {
-        if let Err(fault) = check_line(algebra, inputs, number, *line) {
-            return Err(NetlistFault {
-                line: number,
-                fault,
-            });
-        }
+        check_line(algebra, inputs, number, *line).map_err(|fault| Located {
+            line: number,
+            fault,
+        })?;
     }
     Ok(())
 }

@@ -1,8 +1,7 @@
 use Rattle.std.proofs.Common.{refl, arith}
 use Rattle.netlist.specs.declared.finding.Finding.TheVariants.{Clean}
 use Rattle.netlist.specs.Lines.{line_signals, outs}
-use Rattle.netlist.proofs.LineSignals.{signals_length}
-use Rattle.netlist.proofs.OutValues.{outs_length}
+use Rattle.netlist.proofs.OutValues.{out_signals_length}
 use Rattle.netlist.proofs.PairGrades.{all_clean}
 use Rattle.evaluation.proofs.comparison.try_patterns.Goals as goal
 
@@ -12,8 +11,8 @@ loop-number-init g c =
     let n = c.args.inputs in
     let ls = c.args.first.now in
     let ms = c.args.second.now in
-    let es = outs_length ls (line_signals o n ls) (signals_length o n ls) in
-    let et = outs_length ms (line_signals o n ms) (signals_length o n ms) in
+    let es = out_signals_length o n ls in
+    let et = out_signals_length o n ms in
     let k = c.fill.ensures.len in
     let p = c.requires.pairs in
     let q = c.requires.accepted.pairs in
