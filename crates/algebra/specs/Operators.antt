@@ -1,7 +1,9 @@
 -- The numbers of the operators. Assumes nothing.
-use Rattle.std.specs.Prelude.{ℕ, cond, Some, None, Option, ◌==◌}
+use Rattle.std.specs.Prelude.{◌≡◌, ℕ, cond, Some, None, Option, Result, MatchResult, ◌==◌}
 use Rattle.algebra.specs.declared.operator.Op.{Op}
 use Rattle.algebra.specs.declared.operator.Op.TheVariants.{And, Or, IfAnd, IfOr, Wire, Grade}
+use Rattle.algebra.specs.declared.operator.UnknownOperator.{UnknownOperator}
+use Rattle.algebra.specs.Ops.{Ops, known}
 
 abbrev pub op_number : Op → ℕ
 op_number And = 3
@@ -20,3 +22,11 @@ op_of k =
     (cond (k == 6) (Some IfOr)
     (cond (k == 7) (Some Wire)
     (cond (k == 9) (Some Grade) None)))))
+
+-- the result is the operator of the number, or that number
+abbrev pub OpOf : ℕ → Result Op UnknownOperator → Type 0
+OpOf k r = MatchResult r (λ op. op_of k ≡ Some op) (λ e. (op_of k ≡ None) × (e.0 ≡ k))
+
+-- the operator of a number, if the algebra has it
+abbrev pub own_op : Ops → ℕ → Option Op
+own_op o k = cond (known o k) (op_of k) None

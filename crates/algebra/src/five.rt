@@ -1,7 +1,8 @@
-ghost use Rattle.std.specs.Prelude.{◌≡◌, ◌<◌};
+ghost use Rattle.std.specs.Prelude.{◌≡◌, ◌<◌, refl};
 ghost use Rattle.algebra.specs.Ops.{read};
 ghost use Rattle.algebra.specs.Five.{five, five_laws};
 
+use crate::code::read;
 use crate::interface::Algebra;
 use crate::operator::Op;
 
@@ -69,19 +70,19 @@ fn index(code: u8) -> usize
     ensures value { result ≡ read 5 code }
     ensures within { result < 5 }
 {
-    if code < 5 { code as usize } else { 0 }
+    usize::from(read::<5>(code))
 }
 
 impl Algebra for FiveValued {
     const COUNT: u8 = 5;
 
+    ghost COUNT = { 5 };
+
     ghost ops = { five };
 
-    ghost laws = { five_laws };
+    ghost counts = { refl };
 
-    fn value_count(&self) -> u8 {
-        Self::COUNT
-    }
+    ghost laws = { five_laws };
 
     fn turn(&self, code: u8) -> u8 {
         NOT[index(code)]

@@ -1,5 +1,5 @@
-ghost use Rattle.std.specs.Prelude.{◌≡◌, ◌<◌};
-ghost use Rattle.algebra.specs.Operators.{op_number};
+ghost use Rattle.std.specs.Prelude.{◌≡◌, ℕ};
+ghost use Rattle.algebra.specs.Operators.{op_number, own_op};
 ghost use Rattle.algebra.specs.Ops.{Ops, known};
 ghost use Rattle.algebra.specs.Laws.{Laws};
 
@@ -8,15 +8,16 @@ use crate::operator::Op;
 // An algebra of 2 to 16 values, with codes from 0. Every answer is fixed by what was asked and is a code; a code not
 // below the count is read as 0, and an operator that the algebra lacks gives 0.
 pub trait Algebra {
-    // How many values there are. Generic proofs cannot read it, so generic code asks `value_count`.
+    // How many values there are.
     const COUNT: u8;
+
+    ghost COUNT: { ℕ };
 
     ghost ops: { Ops };
 
-    ghost laws: { Laws ops };
+    ghost counts: { COUNT ≡ ops.count };
 
-    fn value_count(&self) -> u8
-        ensures { result ≡ ops.count };
+    ghost laws: { Laws ops };
 
     // NOT.
     fn turn(&self, code: u8) -> u8
@@ -42,24 +43,30 @@ pub trait Algebra {
     fn letter(&self, code: u8) -> u8
         ensures { result ≡ ops.letter code };
 
+    // The operator of a number, where it has one and the algebra has it.
+    fn operator(&self, number: u8) -> Option<Op>
+        ensures { result ≡ own_op ops number }
+    {
+        match Op::try_from(number) {
+            Ok(Op::Wire) if !self.has_wire() => None,
+            named => named.ok(),
+        }
+    }
+
     // Whether a number is that of an operator that the algebra has.
     fn knows(&self, number: u8) -> bool
         ensures { result ≡ known ops number }
     {
-        match Op::from_number(number) {
-            Some(Op::Wire) => self.has_wire(),
-            Some(_) => true,
-            None => false,
-        }
+        self.operator(number).is_some()
     }
 
-    // The operator of a number; an unknown number gives 0.
+    // The operator of a number, applied; an unknown number gives 0.
     fn operate_by_number(&self, number: u8, left: u8, right: u8) -> u8
         ensures { result ≡ ops.op number left right }
     {
-        match Op::from_number(number) {
-            Some(op) => self.operate(op, left, right),
-            None => 0,
+        match Op::try_from(number) {
+            Ok(op) => self.operate(op, left, right),
+            Err(_) => 0,
         }
     }
 }

@@ -1,5 +1,8 @@
 ghost use Rattle.std.specs.Prelude.{◌≡◌};
-ghost use Rattle.algebra.specs.Operators.{op_number, op_of};
+ghost use Rattle.algebra.specs.Operators.{op_number, OpOf};
+
+use std::error::Error;
+use std::fmt;
 
 // The operators of two operands, with the numbers that netlists and calls give them.
 #[derive(Clone, Copy, PartialEq, Eq, Debug)]
@@ -12,25 +15,40 @@ pub enum Op {
     Grade = 9,
 }
 
-impl Op {
-    pub fn number(self) -> u8
-        ensures { result ≡ op_number self }
-    {
-        self as u8
-    }
+// A number that no operator has.
+#[derive(Clone, Copy, PartialEq, Eq, Debug)]
+pub struct UnknownOperator(pub u8);
 
-    // The operator of a number, where it has one.
-    pub fn from_number(number: u8) -> Option<Op>
-        ensures { result ≡ op_of number }
-    {
+impl From<Op> for u8 {
+    ghost from_gives = { λ op n. n ≡ op_number op };
+
+    fn from(op: Op) -> u8 {
+        op as u8
+    }
+}
+
+impl TryFrom<u8> for Op {
+    type Error = UnknownOperator;
+
+    ghost try_from_gives = { OpOf };
+
+    fn try_from(number: u8) -> Result<Op, UnknownOperator> {
         match number {
-            3 => Some(Op::And),
-            4 => Some(Op::Or),
-            5 => Some(Op::IfAnd),
-            6 => Some(Op::IfOr),
-            7 => Some(Op::Wire),
-            9 => Some(Op::Grade),
-            _ => None,
+            3 => Ok(Op::And),
+            4 => Ok(Op::Or),
+            5 => Ok(Op::IfAnd),
+            6 => Ok(Op::IfOr),
+            7 => Ok(Op::Wire),
+            9 => Ok(Op::Grade),
+            _ => Err(UnknownOperator(number)),
         }
     }
 }
+
+impl fmt::Display for UnknownOperator {
+    fn fmt<W: fmt::Write>(&self, f: &mut fmt::Formatter<W>) -> fmt::Result {
+        write!(f, "no operator has number {}", self.0)
+    }
+}
+
+impl Error for UnknownOperator {}

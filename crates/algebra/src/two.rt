@@ -1,7 +1,8 @@
-ghost use Rattle.std.specs.Prelude.{◌≡◌, ◌<◌};
+ghost use Rattle.std.specs.Prelude.{◌≡◌, ◌<◌, refl};
 ghost use Rattle.algebra.specs.Ops.{read};
 ghost use Rattle.algebra.specs.Two.{two, two_laws};
 
+use crate::code::read;
 use crate::interface::Algebra;
 use crate::operator::Op;
 
@@ -16,19 +17,19 @@ fn bit(code: u8) -> u8
     ensures value { result ≡ read 2 code }
     ensures within { result < 2 }
 {
-    if code < 2 { code } else { 0 }
+    read::<2>(code)
 }
 
 impl Algebra for TwoValued {
     const COUNT: u8 = 2;
 
+    ghost COUNT = { 2 };
+
     ghost ops = { two };
 
-    ghost laws = { two_laws };
+    ghost counts = { refl };
 
-    fn value_count(&self) -> u8 {
-        Self::COUNT
-    }
+    ghost laws = { two_laws };
 
     fn turn(&self, code: u8) -> u8 {
         1 - bit(code)

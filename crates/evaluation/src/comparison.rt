@@ -1,5 +1,6 @@
 // Comparing two netlists by trying every pattern.
-ghost use Rattle.std.specs.Prelude.{◌≡◌, ℕ, ◌+◌, ◌^◌, ◌<◌, ◌≤◌, true, false, List, ◌++◌, length, take, drop, IfOk, Some, None, MatchResult, slice_index_or};
+ghost use Rattle.std.specs.Prelude.{◌≡◌, ℕ, ◌+◌, ◌^◌, ◌<◌, ◌≤◌, ◌==◌, not, List, ◌++◌, length, take, drop, take_while, IfOk, Some, None, MatchResult, slice_index_or};
+ghost use Rattle.std.specs.List.{list_any};
 ghost use Rattle.netlist.specs.Signals.{Signal};
 ghost use Rattle.netlist.specs.Lines.{line_signals, outs, out_count};
 ghost use Rattle.netlist.specs.Faults.{first_fault};
@@ -8,18 +9,13 @@ ghost use Rattle.netlist.specs.Findings.{finding_below, findings, findings_below
 ghost use Rattle.netlist.specs.Comparisons.{Accepted, Refused};
 ghost use Rattle.netlist.specs.Verdicts.{Verdict, out_signal};
 ghost use Rattle.netlist.specs.declared.finding.Finding.TheVariants.{Clean};
-ghost use Rattle.netlist.specs.Orders.{before};
 
 use crate::values::fill_values;
 use algebra::{Algebra, Op};
-use netlist::{
-    ComparisonFault, Difference, Finding, Kind, Line, NetlistFault, Pattern, check_lines,
-    count_outs,
-};
+use netlist::{ComparisonFault, Difference, Finding, Line, Pattern, check_lines, count_pairs};
 
-const OUT: u8 = 8;
-
-// Moves the values of the OUT lines to the front, in order.
+// Moves the values of the OUT lines to the front, in order. In place, so the next free place is counted: a slice has no
+// `retain`.
 fn keep_outs(lines: &[Line], values: &mut [u8])
     requires { length lines.now ≤ length values.old }
     ensures kept { take (out_count lines.now) values.new ≡ outs lines.now values.old }
@@ -27,7 +23,7 @@ fn keep_outs(lines: &[Line], values: &mut [u8])
 {
     let mut count = 0;
     for (number, line) in lines.iter().enumerate() {
-        if line.kind == OUT {
+        if line.is_out() {
             values[count] = values[number];
             count += 1;
         }
@@ -36,17 +32,12 @@ fn keep_outs(lines: &[Line], values: &mut [u8])
 
 // Whether `grade` stands before `than` in an order.
 fn is_before(order: &[u8], grade: u8, than: u8) -> bool
-    ensures { result ≡ before order.now grade than }
+    ensures { result ≡ list_any (λ v. v == grade) (take_while (λ v. not (v == than)) order.now) }
 {
-    for v in order {
-        if *v == than {
-            return false;
-        }
-        if *v == grade {
-            return true;
-        }
-    }
-    false
+    order
+        .iter()
+        .take_while(|&&v| v != than)
+        .any(|&v| v == grade)
 }
 
 // The finding over the patterns up to this one, from that over the patterns before it.
@@ -116,22 +107,9 @@ pub fn check_comparison<G: Algebra>(
     if inputs > 60 {
         return Err(ComparisonFault::TooManyInputs);
     }
-    if room < first.len() || room - first.len() < second.len() {
-        return Err(ComparisonFault::ShortList);
-    }
-    let pairs = count_outs(first);
-    if rows < pairs {
-        return Err(ComparisonFault::FewFindings);
-    }
-    if count_outs(second) != pairs {
-        return Err(ComparisonFault::OutCounts);
-    }
-    if let Err(fault) = check_lines(algebra, inputs, first) {
-        return Err(ComparisonFault::First(fault));
-    }
-    if let Err(fault) = check_lines(algebra, inputs, second) {
-        return Err(ComparisonFault::Second(fault));
-    }
+    let pairs = count_pairs(first, second, room, rows)?;
+    check_lines(algebra, inputs, first).map_err(ComparisonFault::First)?;
+    check_lines(algebra, inputs, second).map_err(ComparisonFault::Second)?;
     Ok(pairs)
 }
 
@@ -176,9 +154,7 @@ fn try_patterns<G: Algebra>(
     ensures rest { drop (length first.now + length second.now) values.new ≡ drop (length first.now + length second.now) values.old }
     ensures found { found.new ≡ findings G.ops inputs first.now second.now }
 {
-    for finding in found.iter_mut() {
-        *finding = Finding::Clean;
-    }
+    found.fill(Finding::Clean);
     for number in 0..1u64 << inputs {
         let Ok(pattern) = Pattern::new(inputs, number) else {
             return;

@@ -20,11 +20,11 @@ fn line_value<G: Algebra>(
     requires within { number ≤ length values.now }
     ensures { (ss : List Signal) → length ss ≡ number → Valued pattern.number ss values.now → result ≡ line_signal G.ops pattern.width ss line pattern.number }
 {
-    match Kind::from_number(line.kind) {
-        Some(Kind::Input) => pattern.bit(line.first as u8),
-        Some(Kind::Const) => line.first as u8,
-        Some(Kind::Not) => algebra.turn(values[line.first as usize]),
-        Some(Kind::Out) => values[line.first as usize],
+    match Kind::try_from(line.kind) {
+        Ok(Kind::Input) => pattern.bit(line.first as u8),
+        Ok(Kind::Const) => line.first as u8,
+        Ok(Kind::Not) => algebra.turn(values[line.first as usize]),
+        Ok(Kind::Out) => values[line.first as usize],
         _ => algebra.operate_by_number(
             line.kind,
             values[line.first as usize],

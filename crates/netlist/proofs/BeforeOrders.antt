@@ -1,23 +1,18 @@
--- Which of two grades stands first in what is left of an order. Assumes nothing.
-use Rattle.std.proofs.Common.{◌≡◌, ℕ, ◌+◌, ◌<◌, ◌≤◌, true, false, cond, eqb, List, length, get_or, drop, ◌∙◌}
-use Rattle.std.proofs.lemmas.List.{at_drop_more, at_drop_all}
-use Rattle.std.proofs.lemmas.Bool.{cond-true, cond-false, eq-eqb, ne_eqb}
+-- Which of two grades stands first in an order, in words of lists. Assumes nothing.
+use Rattle.std.proofs.Common.{◌≡◌, ℕ, ◌+◌, suc, Bool, true, false, cond, not, ◌||◌, ◌==◌, List, [], ◌∷◌, take, refl, sym, ap, ◌∙◌, arith}
+use Rattle.std.specs.List.{list_any, take_while}
 use Rattle.netlist.specs.Orders.{before}
 
-module _ (xs : List ℕ) (i v w : ℕ) where
-  here : i < length xs → before (drop i xs) v w ≡ cond (eqb (get_or xs i 0) w) false (cond (eqb (get_or xs i 0) v) true (before (drop (i + 1) xs) v w))
-  unfolding before
-  here h = at_drop_more (λ l. before l v w) xs i 0 h
+either : (a r : Bool) → (a || r) ≡ cond a true r
+either true r = refl
+either false r = refl
 
-  pub before_than : i < length xs → get_or xs i 0 ≡ w → before (drop i xs) v w ≡ false
-  before_than h e = here h ∙ cond-true _ _ _ (eq-eqb _ w e)
+one_more : (f : ℕ → Bool) (b : Bool) (n x : ℕ) (xs : List ℕ) → list_any f (take (cond (not b) (1 + n) 0) (x ∷ xs)) ≡ cond b false (cond (f x) true (list_any f (take n xs)))
+one_more f true n x xs = refl
+one_more f false n x xs = let more : 1 + n ≡ suc n = omega arith in ap (λ k. list_any f (take k (x ∷ xs))) more ∙ either (f x) _
 
-  pub before_grade : i < length xs → (get_or xs i 0 ≡ w → ⊥) → get_or xs i 0 ≡ v → before (drop i xs) v w ≡ true
-  before_grade h n e = here h ∙ cond-false _ _ _ (ne_eqb _ w n) ∙ cond-true _ _ _ (eq-eqb _ v e)
-
-  pub before_other : i < length xs → (get_or xs i 0 ≡ w → ⊥) → (get_or xs i 0 ≡ v → ⊥) → before (drop i xs) v w ≡ before (drop (i + 1) xs) v w
-  before_other h n m = here h ∙ cond-false _ _ _ (ne_eqb _ w n) ∙ cond-false _ _ _ (ne_eqb _ v m)
-
-  pub before_none : length xs ≤ i → before (drop i xs) v w ≡ false
-  unfolding before
-  before_none h = at_drop_all (λ l. before l v w) xs i h
+-- v stands before w exactly where v is among what comes before the first w
+pub before_any : (v w : ℕ) (xs : List ℕ) → before xs v w ≡ list_any (λ x. x == v) (take_while (λ x. not (x == w)) xs)
+unfolding before
+before_any v w [] = refl
+before_any v w (x ∷ xs) = ap (λ r. cond (x == w) false (cond (x == v) true r)) (before_any v w xs) ∙ sym (one_more (λ x. x == v) (x == w) _ x xs)

@@ -4,8 +4,7 @@ use Rattle.std.proofs.lemmas.List.{at_drop_more, at_drop_all}
 use Rattle.algebra.specs.Ops.{Ops}
 use Rattle.netlist.specs.declared.line.Line.{Line}
 use Rattle.netlist.specs.declared.fault.LineFault.{LineFault}
-use Rattle.netlist.specs.declared.fault.NetlistFault.{NetlistFault}
-use Rattle.netlist.specs.Faults.{line_fault, first_fault, at_line}
+use Rattle.netlist.specs.Faults.{NetlistFault, line_fault, first_fault, at_line}
 
 module _ (o : Ops) (n : ℕ) (ls : List Line) (i : ℕ) where
   here : (d : Line) → i < length ls → first_fault o n i (drop i ls) ≡ at_line i (line_fault o n i (get_or ls i d)) (first_fault o n (i + 1) (drop (i + 1) ls))

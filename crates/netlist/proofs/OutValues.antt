@@ -1,7 +1,9 @@
 -- The values of the OUT lines. Assumes nothing.
 use Rattle.std.proofs.Common.{◌≡◌, ℕ, suc, Bool, true, false, cond, eqb, List, [], ◌∷◌, ◌++◌, map, length, sym, refl, ap, ◌∙◌, arith}
 use Rattle.netlist.specs.declared.line.Line.{Line}
-use Rattle.netlist.specs.Lines.{outs, out_count}
+use Rattle.algebra.specs.Ops.{Ops}
+use Rattle.netlist.specs.Lines.{line_signals, outs, out_count}
+use Rattle.netlist.proofs.LineSignals.{signals_length}
 
 either : {X : Type 0} (b : Bool) (x y x' y' : X) → x ≡ x' → y ≡ y' → cond b x y ≡ cond b x' y'
 either b x y x' y' e f = cc
@@ -32,3 +34,7 @@ unfolding outs out_count
 outs_length [] xs e = refl
 outs_length (l ∷ ls) [] e = absurd (omega arith)
 outs_length (l ∷ ls) (x ∷ xs) e = let h = outs_length ls xs (omega arith) in length_either (eqb l.kind 8) (x ∷ outs ls xs) (outs ls xs) _ _ (ap suc h) h
+
+-- a signal for each OUT line
+pub out_signals_length : (o : Ops) (n : ℕ) (ls : List Line) → length (outs ls (line_signals o n ls)) ≡ out_count ls
+out_signals_length o n ls = outs_length ls (line_signals o n ls) (signals_length o n ls)

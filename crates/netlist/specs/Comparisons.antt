@@ -4,6 +4,8 @@ use Rattle.algebra.specs.Ops.{Ops}
 use Rattle.netlist.specs.declared.line.Line.{Line}
 use Rattle.netlist.specs.declared.fault.ComparisonFault.{ComparisonFault}
 use Rattle.netlist.specs.declared.fault.ComparisonFault.TheVariants.{TooManyInputs, ShortList, FewFindings, OutCounts, First, Second}
+use Rattle.netlist.specs.declared.fault.CountFault.{CountFault}
+use Rattle.netlist.specs.declared.fault.CountFault.TheVariants.{ShortList as NoRoom, FewFindings as NoRows, OutCounts as Uneven}
 use Rattle.netlist.specs.Lines.{out_count}
 use Rattle.netlist.specs.Faults.{first_fault}
 
@@ -24,3 +26,9 @@ Refused o n ls ms room rows FewFindings = (n ≤ 60) × (length ls + length ms �
 Refused o n ls ms room rows OutCounts = (n ≤ 60) × (length ls + length ms ≤ room) × (out_count ls ≤ rows) × (out_count ms ≢ out_count ls)
 Refused o n ls ms room rows (First f) = (n ≤ 60) × (length ls + length ms ≤ room) × (out_count ls ≤ rows) × (out_count ms ≡ out_count ls) × (first_fault o n 0 ls ≡ Some f)
 Refused o n ls ms room rows (Second f) = (n ≤ 60) × (length ls + length ms ≤ room) × (out_count ls ≤ rows) × (out_count ms ≡ out_count ls) × (first_fault o n 0 ls ≡ None) × (first_fault o n 0 ms ≡ Some f)
+
+-- what refuses the counts refuses the comparison
+abbrev pub of_counts : CountFault → ComparisonFault
+of_counts NoRoom = ShortList
+of_counts NoRows = FewFindings
+of_counts Uneven = OutCounts

@@ -4,7 +4,7 @@ use Rattle.algebra.specs.Ops.{Ops}
 use Rattle.netlist.specs.declared.line.Line.{Line}
 use Rattle.netlist.specs.declared.fault.LineFault.{LineFault}
 use Rattle.netlist.specs.declared.fault.LineFault.TheVariants.{NoSuchKind, NoSuchInput, NoSuchCode, NotEarlier}
-use Rattle.netlist.specs.declared.fault.NetlistFault.{NetlistFault}
+use Rattle.netlist.specs.declared.fault.Located.{Located}
 
 -- whether k is the number of a kind that the algebra has
 abbrev pub kind_known : Ops → ℕ → Bool
@@ -22,6 +22,10 @@ line_fault o n k l =
     (cond (l.kind == 1) (unless (nat_lt l.first o.count) NoSuchCode)
     (cond (l.kind == 2 || l.kind == 8) (unless (nat_lt l.first k) NotEarlier)
     (unless (nat_lt l.first k && nat_lt l.second k) NotEarlier))))
+
+-- the first refused line, and why
+abbrev pub NetlistFault : Type 0
+NetlistFault = Located LineFault
 
 abbrev pub at_line : ℕ → Option LineFault → Option NetlistFault → Option NetlistFault
 at_line k None otherwise = otherwise

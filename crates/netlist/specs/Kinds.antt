@@ -1,7 +1,8 @@
 -- The numbers of the kinds of lines. Assumes nothing.
-use Rattle.std.specs.Prelude.{ℕ, cond, Some, None, Option, ◌==◌}
+use Rattle.std.specs.Prelude.{◌≡◌, ℕ, cond, Some, None, Option, Result, MatchResult, ◌==◌}
 use Rattle.netlist.specs.declared.kind.Kind.{Kind}
 use Rattle.netlist.specs.declared.kind.Kind.TheVariants.{Input, Const, Not, And, Or, IfAnd, IfOr, Wire, Out}
+use Rattle.netlist.specs.declared.kind.UnknownKind.{UnknownKind}
 
 abbrev pub kind_number : Kind → ℕ
 kind_number Input = 0
@@ -26,3 +27,7 @@ kind_of k =
     (cond (k == 6) (Some IfOr)
     (cond (k == 7) (Some Wire)
     (cond (k == 8) (Some Out) None))))))))
+
+-- the result is the kind of the number, or that number
+abbrev pub KindOf : ℕ → Result Kind UnknownKind → Type 0
+KindOf k r = MatchResult r (λ kind. kind_of k ≡ Some kind) (λ e. (kind_of k ≡ None) × (e.0 ≡ k))

@@ -9,5 +9,6 @@ pub mod Evaluations
 pub mod Findings
 pub mod Orders
 pub mod Verdicts
+pub mod Counts
 pub mod Comparisons
 pub mod Cases

@@ -1,5 +1,5 @@
 -- What the lines of a netlist mean: a signal each. Which lines are refused. Assumes nothing.
-use Rattle.std.specs.Prelude.{ℕ, suc, cond, List, [], ◌∷◌, ◌++◌, ◌==◌, slice_index_or}
+use Rattle.std.specs.Prelude.{ℕ, suc, Bool, cond, List, [], ◌∷◌, ◌++◌, ◌==◌, slice_index_or}
 use Rattle.algebra.specs.Ops.{Ops}
 use Rattle.netlist.specs.declared.line.Line.{Line}
 use Rattle.netlist.specs.Signals.{Signal, input, constant, turned, joined}
@@ -25,12 +25,15 @@ signals_after o n earlier (l ∷ ls) = signals_after o n (earlier ++ line_signal
 unfoldable pub line_signals : Ops → ℕ → List Line → List Signal
 line_signals o n ls = signals_after o n [] ls
 
+abbrev pub is_out : Line → Bool
+is_out l = l.kind == 8
+
 -- of the OUT lines, in order, what stands beside them in a second list
 unfoldable pub outs : {X : Type 0} → List Line → List X → List X
 outs [] xs = []
 outs (l ∷ ls) [] = []
-outs (l ∷ ls) (x ∷ xs) = cond (l.kind == 8) (x ∷ outs ls xs) (outs ls xs)
+outs (l ∷ ls) (x ∷ xs) = cond (is_out l) (x ∷ outs ls xs) (outs ls xs)
 
 unfoldable pub out_count : List Line → ℕ
 out_count [] = 0
-out_count (l ∷ ls) = cond (l.kind == 8) (suc (out_count ls)) (out_count ls)
+out_count (l ∷ ls) = cond (is_out l) (suc (out_count ls)) (out_count ls)

@@ -2,68 +2,50 @@
 ghost use Rattle.std.specs.Prelude.{◌≡◌, ◌≤◌, length, Some, None, MatchResult};
 ghost use Rattle.netlist.specs.Lines.{out_count};
 ghost use Rattle.netlist.specs.Faults.{line_fault, first_fault};
+ghost use Rattle.netlist.specs.Counts.{Counts, CountsRefused};
 
-use crate::fault::{LineFault, NetlistFault};
+use crate::fault::{CountFault, LineFault, Located, NetlistFault};
 use crate::kind::Kind;
 use crate::line::Line;
 use algebra::Algebra;
 
-const OUT: u8 = 8;
-
-// Why a line is refused, if it is, from its number and the number of inputs.
-pub fn fault_of<G: Algebra>(algebra: &G, inputs: u8, number: usize, line: Line) -> Option<LineFault>
-    ensures { result ≡ line_fault G.ops inputs number line }
+// Whether a line has a kind that there is and operands that it may have, from its number and the number of inputs.
+pub fn check_line<G: Algebra>(
+    algebra: &G,
+    inputs: u8,
+    number: usize,
+    line: Line,
+) -> Result<(), LineFault>
+    ensures { MatchResult result
+        (λ _. line_fault G.ops inputs number line ≡ None)
+        (λ e. line_fault G.ops inputs number line ≡ Some e) }
 {
-    let Some(kind) = Kind::from_number(line.kind) else {
-        return Some(LineFault::NoSuchKind);
+    let Ok(kind) = Kind::try_from(line.kind) else {
+        return Err(LineFault::NoSuchKind);
     };
-    let earlier = (line.first as usize) < number;
+    let earlier = |operand: u32| (operand as usize) < number;
     match kind {
-        Kind::Input => {
-            if line.first < inputs as u32 {
-                None
-            } else {
-                Some(LineFault::NoSuchInput)
-            }
-        }
-        Kind::Const => {
-            if line.first < algebra.value_count() as u32 {
-                None
-            } else {
-                Some(LineFault::NoSuchCode)
-            }
-        }
-        Kind::Wire if !algebra.has_wire() => Some(LineFault::NoSuchKind),
-        Kind::Not | Kind::Out => {
-            if earlier {
-                None
-            } else {
-                Some(LineFault::NotEarlier)
-            }
-        }
-        Kind::And | Kind::Or | Kind::IfAnd | Kind::IfOr | Kind::Wire => {
-            if earlier && (line.second as usize) < number {
-                None
-            } else {
-                Some(LineFault::NotEarlier)
-            }
-        }
+        Kind::Input if line.first >= u32::from(inputs) => Err(LineFault::NoSuchInput),
+        Kind::Const if line.first >= u32::from(G::COUNT) => Err(LineFault::NoSuchCode),
+        Kind::Wire if !algebra.has_wire() => Err(LineFault::NoSuchKind),
+        Kind::Input | Kind::Const => Ok(()),
+        Kind::Not | Kind::Out if earlier(line.first) => Ok(()),
+        _ if earlier(line.first) && earlier(line.second) => Ok(()),
+        _ => Err(LineFault::NotEarlier),
     }
 }
 
-// Whether each line has a kind that there is and operands that it may have; else the first that has not.
+// The same of each line; else the first that is refused.
 pub fn check_lines<G: Algebra>(algebra: &G, inputs: u8, lines: &[Line]) -> Result<(), NetlistFault>
     ensures { MatchResult result
         (λ _. first_fault G.ops inputs 0 lines.now ≡ None)
         (λ e. first_fault G.ops inputs 0 lines.now ≡ Some e) }
 {
     for (number, line) in lines.iter().enumerate() {
-        if let Some(fault) = fault_of(algebra, inputs, number, *line) {
-            return Err(NetlistFault {
-                line: number,
-                fault,
-            });
-        }
+        check_line(algebra, inputs, number, *line).map_err(|fault| Located {
+            line: number,
+            fault,
+        })?;
     }
     Ok(())
 }
@@ -73,11 +55,30 @@ pub fn count_outs(lines: &[Line]) -> usize
     ensures value { result ≡ out_count lines.now }
     ensures few { result ≤ length lines.now }
 {
-    let mut outs = 0;
-    for line in lines {
-        if line.kind == OUT {
-            outs += 1;
-        }
+    lines.iter().filter(|line| line.is_out()).count()
+}
+
+// How many pairs of OUT lines two netlists have, where they can be compared with room for so many values and rows for so
+// many findings.
+pub fn count_pairs(
+    first: &[Line],
+    second: &[Line],
+    values: usize,
+    rows: usize,
+) -> Result<usize, CountFault>
+    ensures { MatchResult result
+        (λ pairs. (pairs ≡ out_count first.now) × Counts first.now second.now values rows)
+        (λ e. CountsRefused first.now second.now values rows e) }
+{
+    if values < first.len() || values - first.len() < second.len() {
+        return Err(CountFault::ShortList);
     }
-    outs
+    let pairs = count_outs(first);
+    if rows < pairs {
+        return Err(CountFault::FewFindings);
+    }
+    if count_outs(second) != pairs {
+        return Err(CountFault::OutCounts);
+    }
+    Ok(pairs)
 }

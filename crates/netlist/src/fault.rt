@@ -1,25 +1,19 @@
 ghost use Rattle.std.specs.Prelude.{◌≡◌};
 ghost use Rattle.netlist.specs.declared.fault.EvaluationFault.TheVariants.{Line};
 ghost use Rattle.netlist.specs.FaultNumbers.{line_fault_number, evaluation_fault_number, comparison_fault_number, comparison_fault_netlist, comparison_fault_line};
+ghost use Rattle.netlist.specs.Comparisons.{of_counts};
 
 // Why a line is refused.
 #[derive(Clone, Copy, PartialEq, Eq, Debug)]
 pub enum LineFault {
-    // no such kind, or one that the algebra lacks
-    NoSuchKind,
     // an INPUT line names an input that there is not
-    NoSuchInput,
+    NoSuchInput = 24,
     // a CONST line names a code that there is not
-    NoSuchCode,
+    NoSuchCode = 25,
+    // no such kind, or one that the algebra lacks
+    NoSuchKind = 26,
     // an operand is no earlier line
-    NotEarlier,
-}
-
-// The first line of a netlist that is refused, and why.
-#[derive(Clone, Copy, PartialEq, Eq, Debug)]
-pub struct NetlistFault {
-    pub line: usize,
-    pub fault: LineFault,
+    NotEarlier = 28,
 }
 
 impl LineFault {
@@ -27,14 +21,18 @@ impl LineFault {
     pub fn number(self) -> u8
         ensures { result ≡ line_fault_number self }
     {
-        match self {
-            LineFault::NoSuchInput => 24,
-            LineFault::NoSuchCode => 25,
-            LineFault::NoSuchKind => 26,
-            LineFault::NotEarlier => 28,
-        }
+        self as u8
     }
 }
+
+// The first line that is refused, and why.
+#[derive(Clone, Copy, PartialEq, Eq, Debug)]
+pub struct Located<F> {
+    pub line: usize,
+    pub fault: F,
+}
+
+pub type NetlistFault = Located<LineFault>;
 
 // Why an evaluation is refused.
 #[derive(Clone, Copy, PartialEq, Eq, Debug)]
@@ -64,6 +62,17 @@ impl From<NetlistFault> for EvaluationFault {
     }
 }
 
+// Why the counts of two netlists let no comparison begin.
+#[derive(Clone, Copy, PartialEq, Eq, Debug)]
+pub enum CountFault {
+    // the list of values is shorter than the lines of both netlists
+    ShortList,
+    // fewer rows for findings than the first netlist has OUT lines
+    FewFindings,
+    // the netlists have different counts of OUT lines
+    OutCounts,
+}
+
 // Why a comparison by trying every pattern is refused.
 #[derive(Clone, Copy, PartialEq, Eq, Debug)]
 pub enum ComparisonFault {
@@ -88,12 +97,11 @@ impl ComparisonFault {
             ComparisonFault::ShortList => 27,
             ComparisonFault::FewFindings => 43,
             ComparisonFault::OutCounts => 42,
-            ComparisonFault::First(f) => f.fault.number(),
-            ComparisonFault::Second(f) => f.fault.number(),
+            ComparisonFault::First(f) | ComparisonFault::Second(f) => f.fault.number(),
         }
     }
 
-    // The netlist that is refused, 1 or 2, or 0 for neither.
+    // The netlist that is refused, 1 or 2, or 0 for neither, as reports write it.
     pub fn netlist(self) -> u8
         ensures { result ≡ comparison_fault_netlist self }
     {
@@ -109,9 +117,20 @@ impl ComparisonFault {
         ensures { result ≡ comparison_fault_line self }
     {
         match self {
-            ComparisonFault::First(f) => Some(f.line),
-            ComparisonFault::Second(f) => Some(f.line),
+            ComparisonFault::First(f) | ComparisonFault::Second(f) => Some(f.line),
             _ => None,
+        }
+    }
+}
+
+impl From<CountFault> for ComparisonFault {
+    ghost from_gives = { λ e r. r ≡ of_counts e };
+
+    fn from(e: CountFault) -> ComparisonFault {
+        match e {
+            CountFault::ShortList => ComparisonFault::ShortList,
+            CountFault::FewFindings => ComparisonFault::FewFindings,
+            CountFault::OutCounts => ComparisonFault::OutCounts,
         }
     }
 }

@@ -1,42 +1,60 @@
 ghost use Rattle.std.specs.Prelude.{◌≡◌};
-ghost use Rattle.netlist.specs.Kinds.{kind_number, kind_of};
+ghost use Rattle.netlist.specs.Kinds.{kind_number, KindOf};
+
+use std::error::Error;
+use std::fmt;
 
 // What a line can be, with the numbers that netlists give the kinds.
 #[derive(Clone, Copy, PartialEq, Eq, Debug)]
 pub enum Kind {
-    Input,
-    Const,
-    Not,
-    And,
-    Or,
-    IfAnd,
-    IfOr,
-    Wire,
-    Out,
+    Input = 0,
+    Const = 1,
+    Not = 2,
+    And = 3,
+    Or = 4,
+    IfAnd = 5,
+    IfOr = 6,
+    Wire = 7,
+    Out = 8,
 }
 
-impl Kind {
-    pub fn number(self) -> u8
-        ensures { result ≡ kind_number self }
-    {
-        self as u8
-    }
+// A number that no kind of line has.
+#[derive(Clone, Copy, PartialEq, Eq, Debug)]
+pub struct UnknownKind(pub u8);
 
-    // The kind of a number, where it has one.
-    pub fn from_number(number: u8) -> Option<Kind>
-        ensures { result ≡ kind_of number }
-    {
+impl From<Kind> for u8 {
+    ghost from_gives = { λ kind n. n ≡ kind_number kind };
+
+    fn from(kind: Kind) -> u8 {
+        kind as u8
+    }
+}
+
+impl TryFrom<u8> for Kind {
+    type Error = UnknownKind;
+
+    ghost try_from_gives = { KindOf };
+
+    fn try_from(number: u8) -> Result<Kind, UnknownKind> {
         match number {
-            0 => Some(Kind::Input),
-            1 => Some(Kind::Const),
-            2 => Some(Kind::Not),
-            3 => Some(Kind::And),
-            4 => Some(Kind::Or),
-            5 => Some(Kind::IfAnd),
-            6 => Some(Kind::IfOr),
-            7 => Some(Kind::Wire),
-            8 => Some(Kind::Out),
-            _ => None,
+            0 => Ok(Kind::Input),
+            1 => Ok(Kind::Const),
+            2 => Ok(Kind::Not),
+            3 => Ok(Kind::And),
+            4 => Ok(Kind::Or),
+            5 => Ok(Kind::IfAnd),
+            6 => Ok(Kind::IfOr),
+            7 => Ok(Kind::Wire),
+            8 => Ok(Kind::Out),
+            _ => Err(UnknownKind(number)),
         }
     }
 }
+
+impl fmt::Display for UnknownKind {
+    fn fmt<W: fmt::Write>(&self, f: &mut fmt::Formatter<W>) -> fmt::Result {
+        write!(f, "no kind of line has number {}", self.0)
+    }
+}
+
+impl Error for UnknownKind {}

@@ -10,9 +10,9 @@ mod line;
 mod pattern;
 
 pub use cases::worked_cases;
-pub use checks::{check_lines, count_outs, fault_of};
-pub use fault::{ComparisonFault, EvaluationFault, LineFault, NetlistFault};
-pub use finding::{Difference, Finding};
-pub use kind::Kind;
+pub use checks::{check_line, check_lines, count_outs, count_pairs};
+pub use fault::{ComparisonFault, CountFault, EvaluationFault, LineFault, Located, NetlistFault};
+pub use finding::{Difference, Finding, HasFinding};
+pub use kind::{Kind, UnknownKind};
 pub use line::Line;
 pub use pattern::{Pattern, PatternFault};

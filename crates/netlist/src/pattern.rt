@@ -14,5 +14,5 @@ pub struct Pattern {
 // There is no such pattern.
 #[derive(Clone, Copy, PartialEq, Eq, Debug)]
 pub enum PatternFault {
-    OutOfBounds,
+    OutOfBounds = 29,
 }

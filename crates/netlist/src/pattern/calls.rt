@@ -11,9 +11,7 @@ impl PatternFault {
     pub fn number(self) -> u8
         ensures { result ≡ pattern_fault_number self }
     {
-        match self {
-            PatternFault::OutOfBounds => 29,
-        }
+        self as u8
     }
 }
 

@@ -1,8 +1,7 @@
 use Rattle.std.proofs.Common.{◌≡◌, ◌-◌, ◌++◌, drop, ap, ◌∙◌, arith}
 use Rattle.netlist.specs.Lines.{line_signals, outs}
 use Rattle.netlist.specs.Findings.{findings}
-use Rattle.netlist.proofs.LineSignals.{signals_length}
-use Rattle.netlist.proofs.OutValues.{outs_length}
+use Rattle.netlist.proofs.OutValues.{out_signals_length}
 use Rattle.netlist.proofs.Graded.{verdicts}
 use Rattle.evaluation.proofs.comparison.compare_by_patterns.Goals as goal
 
@@ -14,8 +13,8 @@ returns g c =
     let ms = c.args.second.now in
     let pairs = c.in_ok-pairs.pairs in
     let ok = c.in_ok-pairs.ensures in
-    let es = outs_length ls (line_signals o n ls) (signals_length o n ls) in
-    let et = outs_length ms (line_signals o n ms) (signals_length o n ms) in
+    let es = out_signals_length o n ls in
+    let et = out_signals_length o n ms in
     let same : pairs - 0 ≡ pairs = omega arith in
     let whole = ap (λ fs. fs ++ drop (pairs - 0) c.args.found.now) c.try_patterns.ensures.found ∙ ap (λ k. findings o n ls ms ++ drop k c.args.found.now) same in
     record {

@@ -1,7 +1,8 @@
-use Rattle.std.proofs.Common.{◌≡◌, ◌<◌, ◌≤◌, length, drop, refl, subst, arith}
+use Rattle.std.proofs.Common.{◌≡◌, ◌<◌, ◌≤◌, length, drop, refl, subst, sym, ◌∙◌, arith}
+use Rattle.std.proofs.lemmas.Bool.{eqb-true, eqb-false}
 use Rattle.netlist.proofs.OutLines.{kept_out, kept_other, kept_all}
 use Rattle.evaluation.proofs.comparison.keep_outs.Goals as goal
-use Rattle.evaluation.proofs.comparison.keep_outs.Goals.{then-line-eq-OUT, else-line-eq-OUT}
+use Rattle.evaluation.proofs.comparison.keep_outs.Goals.{then-is_out, else-is_out}
 
 pub loop-number-preserved : goal.loop-number-preserved
 loop-number-preserved c =
@@ -12,9 +13,9 @@ loop-number-preserved c =
     let n = c.loop-number.count in
     let h : i < length ls = c.loop-number-test.true in
     let room : length ls ≤ length vs = (let r = c.requires in let k = c.loop-number.auto.values in omega arith) in
-    elim c.if-line-eq-OUT.branch [
-      | then-line-eq-OUT w ↦ rw (w.values-is, w.count-is) (kept_out ls old vs i n c.loop-number.invariant _ h room _ refl w.if-line-eq-OUT.true)
-      | else-line-eq-OUT w ↦ rw (w.values-is, w.count-is) (kept_other ls old vs i n c.loop-number.invariant _ h room w.if-line-eq-OUT.false)
+    elim c.if-is_out.branch [
+      | then-is_out w ↦ rw (w.values-is, w.count-is) (kept_out ls old vs i n c.loop-number.invariant _ h room _ refl (eqb-true _ 8 (sym c.is_out.ensures ∙ w.if-is_out.true)))
+      | else-is_out w ↦ rw (w.values-is, w.count-is) (kept_other ls old vs i n c.loop-number.invariant _ h room (eqb-false _ 8 (sym c.is_out.ensures ∙ w.if-is_out.false)))
     ]
 
 pub returns : goal.returns

@@ -1,8 +1,15 @@
-use Rattle.std.proofs.Common.{sym, ap, ◌∙◌}
+use Rattle.std.proofs.Common.{◌≡◌, ℕ, Bool, not, ◌==◌, List, sym, ap, ◌∙◌}
+use Rattle.std.specs.List.{list_any, take_while}
 use Rattle.netlist.specs.declared.finding.Finding.TheVariants.{Differs}
 use Rattle.netlist.specs.Orders.{before}
+use Rattle.netlist.proofs.BeforeOrders.{before_any}
 use Rattle.netlist.proofs.Grading.{still_clean, first_differs, graver, not_graver}
 use Rattle.evaluation.proofs.comparison.regrade.Goals as goal
+
+-- what `is_before` told, in words of the grave order and of GRADE
+ranked : (order grave : List ℕ) (grade op known : ℕ) (r b : Bool) → order ≡ grave → grade ≡ op → r ≡ list_any (λ v. v == grade) (take_while (λ v. not (v == known)) order) → r ≡ b → before grave op known ≡ b
+ranked order grave grade op known r b s t e f =
+    ap (λ v. before grave v known) (sym t) ∙ ap (λ l. before l grade known) (sym s) ∙ before_any grade known order ∙ sym e ∙ f
 
 pub returns-then-grade-eq0 : goal.returns-then-grade-eq0
 returns-then-grade-eq0 g c s t left right known =
@@ -17,9 +24,9 @@ pub returns-then-is_before : goal.returns-then-is_before
 returns-then-is_before g c s t left right known =
     ap (λ v. Differs (record { grade = v; pattern = c.args.number; left = c.args.left; right = c.args.right })) c.operate-grade.ensures
     ∙ graver g.G.Algebra.ops g.G.Algebra.laws c.args.number _ _ s t left right c.args.old known c.in-Differs.known c.in-Differs.is
-    (ap (λ v. before g.G.Algebra.ops.grave v c.in-Differs.known.grade) (sym c.operate-grade.ensures) ∙ ap (λ l. before l c.operate-grade.result c.in-Differs.known.grade) (sym c.grave_order.ensures) ∙ sym c.is_before.ensures ∙ c.if-is_before.true)
+    (ranked _ _ _ _ c.in-Differs.known.grade _ _ c.grave_order.ensures c.operate-grade.ensures c.is_before.ensures c.if-is_before.true)
 
 pub returns-else-is_before : goal.returns-else-is_before
 returns-else-is_before g c s t left right known =
     not_graver g.G.Algebra.ops g.G.Algebra.laws c.args.number _ _ s t left right c.args.old known c.in-Differs.known c.in-Differs.is
-    (ap (λ v. before g.G.Algebra.ops.grave v c.in-Differs.known.grade) (sym c.operate-grade.ensures) ∙ ap (λ l. before l c.operate-grade.result c.in-Differs.known.grade) (sym c.grave_order.ensures) ∙ sym c.is_before.ensures ∙ c.if-is_before.false)
+    (ranked _ _ _ _ c.in-Differs.known.grade _ _ c.grave_order.ensures c.operate-grade.ensures c.is_before.ensures c.if-is_before.false)

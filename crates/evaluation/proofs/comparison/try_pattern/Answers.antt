@@ -2,9 +2,8 @@ use Rattle.std.proofs.Common.{◌≡◌, ◌+◌, ◌-◌, length, take, sym, ap
 use Rattle.netlist.specs.Lines.{line_signals, outs, out_count}
 use Rattle.netlist.specs.Evaluations.{values_at}
 use Rattle.netlist.specs.Findings.{zipped, finding_below}
-use Rattle.netlist.proofs.LineSignals.{signals_length}
 use Rattle.netlist.proofs.OutLines.{few_outs}
-use Rattle.netlist.proofs.OutValues.{outs_length}
+use Rattle.netlist.proofs.OutValues.{out_signals_length}
 use Rattle.netlist.proofs.TwoParts.{front_part, back_part, rest_part, second_length}
 use Rattle.evaluation.proofs.comparison.try_pattern.Goals as goal
 
@@ -48,8 +47,8 @@ returns g c =
     let lv : length v ≡ b = second_length a b (a - 0) (a + b - a) xs u v e0 e1 lu room c.out_values-2.auto.values in
     let ss = outs ls (line_signals o n ls) in
     let ts = outs ms (line_signals o n ms) in
-    let es : length ss ≡ out_count ls = outs_length ls (line_signals o n ls) (signals_length o n ls) in
-    let et : length ts ≡ out_count ms = outs_length ms (line_signals o n ms) (signals_length o n ms) in
+    let es : length ss ≡ out_count ls = out_signals_length o n ls in
+    let et : length ts ≡ out_count ms = out_signals_length o n ms in
     record {
       rest = rest_part a b (a - 0) (a + b - a) xs u v e0 e1 lu lv;
       graded = λ known.

@@ -1,10 +1,6 @@
-use Rattle.std.proofs.Common.{◌≡◌, ℕ, ◌+◌, ◌<◌, length, get_or, drop}
-use Rattle.netlist.specs.declared.finding.Finding.TheVariants.{Clean}
+use Rattle.std.proofs.Common.{◌≡◌, ◌+◌, length, drop}
 use Rattle.netlist.specs.Findings.{findings_below}
 use Rattle.evaluation.proofs.comparison.try_patterns.Given as goal
-
-abbrev pub invariant-loop-finding : goal.invariant-loop-finding
-invariant-loop-finding g l = (k : ℕ) → k < l.finding-index → get_or l.found k Clean ≡ Clean
 
 abbrev pub invariant-loop-number : goal.invariant-loop-number
 invariant-loop-number g l =
