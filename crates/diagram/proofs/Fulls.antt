@@ -1,6 +1,6 @@
 -- What a walk that ran out of places says of the number of parts, and what cutting back leaves. Assumes nothing.
-use Rattle.std.proofs.Common.{◌≡◌, ℕ, zero, suc, ◌<◌, ◌≤◌, Bool, true, false, cond, eqb, List, [], ◌∷◌, Some, Option, sym, refl, ap, ◌∙◌, subst, inl, ⊎_elim, suc-le-suc, arith}
-use Rattle.std.proofs.lemmas.Bool.{cases_lt, cond_both, eqb-true, eqb-false, ne_eqb, both_ways}
+use Rattle.std.proofs.Common.{◌≡◌, ℕ, zero, suc, ◌<◌, ◌≤◌, Bool, true, false, cond, eqb, List, [], ◌∷◌, is_err, Some, Option, Ok, Err, Result, sym, refl, ap, ◌∙◌, subst, inl, ⊎_elim, suc-le-suc, arith}
+use Rattle.std.proofs.lemmas.Bool.{cases_lt, cond_both, eqb-true, eqb-false, ne_eqb, both_ways, false≢true}
 use Rattle.algebra.specs.Ops.{Ops, known}
 use Rattle.algebra.specs.Laws.{Laws}
 use Rattle.netlist.specs.Signals.{Signal, Agree, bit, input, constant, joined}
@@ -116,6 +116,12 @@ operator_joins o s k x y e =
 
 pub table_fits : (t : Table) → (view t).used ≤ room t
 table_fits t = let rs = t.places.records in let ns = t.places.next in let e = t.places.within in omega arith
+
+-- ---- a result that `?` passes on
+
+pub refused : {T E : Type 0} (P : Result T E → Type 0) (r : Result T E) → is_err r ≡ true → ((f : E) → P (Err f)) → P r
+refused P (Ok h) e each = absurd (false≢true e)
+refused P (Err f) e each = each f
 
 -- ---- the tests of a call
 

@@ -1,7 +1,6 @@
 -- Which codes of an algebra decide whether a record is kept under NOT, as masks. Assumes nothing.
 use Rattle.std.specs.Prelude.{ℕ, zero, suc, ◌^◌, Bool, cond, not, bit_or}
 use Rattle.algebra.specs.Ops.{Ops}
-use Rattle.diagram.specs.declared.codes.Codes.{Codes}
 use Rattle.records.specs.Rules.{settled_code, firm_code}
 
 -- the numbers below m that pass a test, as a mask
@@ -15,6 +14,3 @@ loose_codes o = mask_below (λ v. not (settled_code o v)) 16
 
 abbrev pub firm_codes : Ops → ℕ
 firm_codes o = mask_below (firm_code o) 16
-
-abbrev pub codes_of : Ops → Codes
-codes_of o = record { loose = loose_codes o; firm = firm_codes o }

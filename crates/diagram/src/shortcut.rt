@@ -7,7 +7,7 @@ ghost use Rattle.records.specs.Walks.{combine};
 ghost use Rattle.diagram.specs.Shortcuts.{operand, Leads, Gives, Short};
 ghost use Rattle.diagram.specs.Views.{view};
 
-use crate::codes::is_up;
+use crate::codes::{Codes, is_up};
 use crate::handle::is_constant;
 use crate::table::Table;
 use crate::walk::leaf;
@@ -55,7 +55,7 @@ fn some_value(reach: u16) -> u8 {
 // The result by the values of the operand that is no constant.
 fn by_values<G: Algebra>(
     table: &Table,
-    algebra: &G,
+    codes: &Codes<G>,
     op: u8,
     x: u32,
     y: u32,
@@ -65,12 +65,12 @@ fn by_values<G: Algebra>(
     requires leads { Leads x y lead }
     ensures { IfSome result (Short G.ops (view table.now) op x y) }
 {
-    let reach = table.reach_of(algebra, lead);
-    if gives(algebra, op, x, y, reach, None) {
+    let reach = table.reach_of(codes, lead);
+    if gives(codes.algebra, op, x, y, reach, None) {
         return Some(lead);
     }
-    let result = value_at(algebra, op, x, y, some_value(reach));
-    if gives(algebra, op, x, y, reach, Some(result)) {
+    let result = value_at(codes.algebra, op, x, y, some_value(reach));
+    if gives(codes.algebra, op, x, y, reach, Some(result)) {
         return Some(result as u32);
     }
     None
@@ -79,7 +79,7 @@ fn by_values<G: Algebra>(
 // The handle of an operator's result, where the values that the operands have tell it.
 pub(crate) fn shortcut<G: Algebra>(
     table: &Table,
-    algebra: &G,
+    codes: &Codes<G>,
     op: u8,
     x: u32,
     y: u32,
@@ -89,10 +89,10 @@ pub(crate) fn shortcut<G: Algebra>(
     ensures { IfSome result (Short G.ops (view table.now) op x y) }
 {
     if is_constant(x) {
-        return by_values(table, algebra, op, x, y, y);
+        return by_values(table, codes, op, x, y, y);
     }
     if is_constant(y) || x == y {
-        return by_values(table, algebra, op, x, y, x);
+        return by_values(table, codes, op, x, y, x);
     }
     None
 }

@@ -2,7 +2,6 @@
 ghost use Rattle.std.specs.Prelude.{◌≡◌, ◌<◌, ◌≤◌, length, None};
 ghost use Rattle.netlist.specs.Signals.{input as input_signal, constant as constant_signal, turned, joined};
 ghost use Rattle.records.specs.Changes.{Within};
-ghost use Rattle.diagram.specs.Codes.{codes_of};
 ghost use Rattle.records.specs.Faults.{input_refusal, constant_refusal, turn_refusal, join_refusal};
 ghost use Rattle.memo.specs.Memos.{Pairs};
 ghost use Rattle.records.specs.Outcomes.{Shape, Meaning, Means, TruePairs};
@@ -40,7 +39,7 @@ impl Table {
             return Err(TableFault::NoSuchInput);
         }
         let used = self.used();
-        match self.make(algebra, Codes::of(algebra), input, BIT_DOWN, BIT_UP) {
+        match self.make(&Codes::of(algebra), input, BIT_DOWN, BIT_UP) {
             Ok(h) => Ok(h),
             Err(_) => {
                 self.cut_back(memo, used);
@@ -64,15 +63,13 @@ impl Table {
     // The walk over two handles; if it finds the table full, back to the places that were in use, and the memo forgets.
     fn apply<G: Algebra, M: Memo>(
         &mut self,
-        algebra: &G,
-        codes: Codes,
+        codes: &Codes<G>,
         memo: &mut M,
         rows: &mut [Row],
         op: u8,
         x: u32,
         y: u32,
     ) -> Result<u32, TableFault>
-        requires codes { codes ≡ codes_of G.ops }
         requires x { Within (view self.old) x }
         requires y { Within (view self.old) y }
         requires rows { (view self.old).inputs < length rows.old }
@@ -82,7 +79,7 @@ impl Table {
         ensures room { room self.new ≡ room self.old }
     {
         let used = self.used();
-        match walk(self, algebra, codes, memo, rows, op, x, y) {
+        match walk(self, codes, memo, rows, op, x, y) {
             Ok(h) => Ok(h),
             Err(_) => {
                 self.cut_back(memo, used);
@@ -108,10 +105,8 @@ impl Table {
             return Err(TableFault::FewRows);
         }
         let codes = Codes::of(algebra);
-        if !self.lawful(algebra, codes, x) {
-            return Err(TableFault::NoSuchHandle);
-        }
-        self.apply(algebra, codes, memo, rows, TURN, x, x)
+        self.check_lawful(&codes, x)?;
+        self.apply(&codes, memo, rows, TURN, x, x)
     }
 
     // The handle of what an operator, by its number, gives of two handles' signals.
@@ -136,12 +131,8 @@ impl Table {
             return Err(TableFault::NoSuchOperator);
         }
         let codes = Codes::of(algebra);
-        if !self.lawful(algebra, codes, x) {
-            return Err(TableFault::NoSuchHandle);
-        }
-        if !self.lawful(algebra, codes, y) {
-            return Err(TableFault::NoSuchHandle);
-        }
-        self.apply(algebra, codes, memo, rows, op, x, y)
+        self.check_lawful(&codes, x)?;
+        self.check_lawful(&codes, y)?;
+        self.apply(&codes, memo, rows, op, x, y)
     }
 }

@@ -1,7 +1,6 @@
 // The walk over two handles by which every NOT and every operator is done (apply, with its computed table).
 ghost use Rattle.std.specs.Prelude.{◌≡◌, ◌+◌, ◌<◌, min, length};
 ghost use Rattle.records.specs.Changes.{Within, Grows};
-ghost use Rattle.diagram.specs.Codes.{codes_of};
 ghost use Rattle.records.specs.Stores.{level};
 ghost use Rattle.diagram.specs.Views.{view, room};
 ghost use Rattle.records.specs.Walks.{combine, WalkShape, Walked};
@@ -33,15 +32,13 @@ pub(crate) fn leaf<G: Algebra>(algebra: &G, op: u8, x: u8, y: u8) -> u8
 // others to the next.
 pub(crate) fn walk<G: Algebra, M: Memo>(
     table: &mut Table,
-    algebra: &G,
-    codes: Codes,
+    codes: &Codes<G>,
     memo: &mut M,
     rows: &mut [Row],
     op: u8,
     x: u32,
     y: u32,
 ) -> Result<u32, Full>
-    requires codes { codes ≡ codes_of G.ops }
     requires x { Within (view table.old) x }
     requires y { Within (view table.old) y }
     requires rows { (view table.old).inputs < length rows.old + min (level (view table.old) x) (level (view table.old) y) }
@@ -51,13 +48,13 @@ pub(crate) fn walk<G: Algebra, M: Memo>(
     ensures meaning { Walked G.ops (room table.old) (view table.old) (view table.new) (M.recalls memo.old) (M.recalls memo.new) op x y result }
 {
     if is_constant(x) && is_constant(y) {
-        return Ok(leaf(algebra, op, x as u8, y as u8) as u32);
+        return Ok(leaf(codes.algebra, op, x as u8, y as u8) as u32);
     }
-    if op == TURN && codes.settled(table.reach_of(algebra, x)) {
-        return Ok(table.negate(algebra, codes, x));
+    if op == TURN && codes.settled(table.reach_of(codes, x)) {
+        return Ok(table.negate(codes, x));
     }
     if op != TURN {
-        if let Some(h) = shortcut(table, algebra, op, x, y) {
+        if let Some(h) = shortcut(table, codes, op, x, y) {
             return Ok(h);
         }
     }
@@ -69,10 +66,9 @@ pub(crate) fn walk<G: Algebra, M: Memo>(
             return Ok(h);
         }
     }
-    *own = table.cut(algebra, codes, x, y);
+    *own = table.cut(codes, x, y);
     let low = walk(
         table,
-        algebra,
         codes,
         memo,
         rest,
@@ -83,7 +79,6 @@ pub(crate) fn walk<G: Algebra, M: Memo>(
     own.low = low;
     let high = walk(
         table,
-        algebra,
         codes,
         memo,
         rest,
@@ -91,7 +86,7 @@ pub(crate) fn walk<G: Algebra, M: Memo>(
         own.high,
         own.high_other,
     )?;
-    let h = table.make(algebra, codes, own.input, own.low, high)?;
+    let h = table.make(codes, own.input, own.low, high)?;
     memo.put(op, x, y, h);
     Ok(h)
 }

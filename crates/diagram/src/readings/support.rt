@@ -6,6 +6,7 @@ ghost use Rattle.records.specs.Stores.{value, up};
 ghost use Rattle.records.specs.Supports.{support_of, Covers, Collected, AllDone, done_at};
 ghost use Rattle.diagram.specs.Views.{view};
 
+use crate::codes::Codes;
 use crate::handle::{handle_of, is_constant, place_of};
 use crate::table::Table;
 use algebra::Algebra;
@@ -98,9 +99,7 @@ impl Table {
         if rows.len() <= self.inputs() as usize {
             return Err(TableFault::FewRows);
         }
-        if !self.is_lawful(algebra, h) {
-            return Err(TableFault::NoSuchHandle);
-        }
+        self.check_lawful(&Codes::of(algebra), h)?;
         clear(rows);
         Ok(self.collect(rows, h, 0))
     }

@@ -8,7 +8,6 @@ use Rattle.diagram.specs.Views.{view, room}
 use Rattle.records.proofs.Adds.{grows_refl, grows_trans}
 use Rattle.records.proofs.Descents.{leaf_from, negated_from, moved_from, some_row, low_rows, high_rows, low_beyond, high_beyond}
 use Rattle.records.proofs.Halves.{halved}
-use Rattle.diagram.proofs.Passes.{settled_test}
 use Rattle.diagram.proofs.Telling.{short_result}
 use Rattle.records.proofs.Shapes.{well}
 use Rattle.records.proofs.Values.{within_grows}
@@ -36,8 +35,7 @@ returns-then-settled g t c =
     let o = g.G.Algebra.ops in
     let laws = g.G.Algebra.laws in
     let s = view c.args.table.now in
-    let test = settled_test o c.args.codes c.reach_of.result c.requires.codes in
-    let settled = ap (settled_mask o) (sym c.reach_of.ensures) ∙ sym test ∙ sym c.settled.ensures ∙ c.if-settled.true in
+    let settled = ap (settled_mask o) (sym c.reach_of.ensures) ∙ sym c.settled.ensures ∙ c.if-settled.true in
     record {
       grows = grows_refl s;
       room = refl {a = room c.args.table.now};
@@ -75,7 +73,7 @@ walk-requires g t c κs within =
     let cut = halved g.G.Algebra.laws (well c.args.table.now.well) c.args.x c.args.y c.cut.result c.requires.x c.requires.y c.cut.ensures in
     let rest : length c.args.rows.now ≤ length c.split_at_mut-own.result.1.now + 1 = omega (arith, c.split_at_mut-own.ensures.back_len) in
     let rows = low_rows _ _ _ _ _ _ _ _ (length c.split_at_mut-own.result.1.now) cut c.requires.rows rest in
-    (search rules, (within.0, (within.1, (c.requires.codes, (cut.low.beyond.within, (cut.low_other.beyond.within, rows))))))
+    (search rules, (within.0, (within.1, (cut.low.beyond.within, (cut.low_other.beyond.within, rows)))))
 
 pub returns-in_err-low : goal.returns-in_err-low
 returns-in_err-low g t c =
@@ -102,7 +100,7 @@ walk-requires-2 g t c κs within =
     let grows = c.walk.ensures.grows in
     let rest : length c.args.rows.now ≤ length c.walk.new.rows + 1 = omega (arith, c.split_at_mut-own.ensures.back_len, c.walk.auto.rows) in
     let rows = high_rows _ _ _ _ _ _ _ _ (length c.walk.new.rows) cut c.requires.rows rest grows in
-    (search rules, (within.0, (within.1, (c.requires.codes, (within_grows grows _ cut.high.beyond.within, (within_grows grows _ cut.high_other.beyond.within, rows))))))
+    (search rules, (within.0, (within.1, (within_grows grows _ cut.high.beyond.within, (within_grows grows _ cut.high_other.beyond.within, rows)))))
 
 pub returns-in_err-high : goal.returns-in_err-high
 returns-in_err-high g t c =
@@ -132,7 +130,6 @@ make-requires g t c =
     let first = c.walk.ensures.grows in
     let second = c.walk-2.ensures.grows in
     record {
-      codes = c.requires.codes;
       inside = omega (arith, first.inputs, second.inputs, cut.inside);
       low = low_beyond _ _ _ _ _ _ _ cut first second c.in_ok-low.low c.in_ok-low.ensures.shape;
       high = high_beyond _ _ _ _ _ _ _ cut first second c.in_ok-high.high c.in_ok-high.ensures.shape;

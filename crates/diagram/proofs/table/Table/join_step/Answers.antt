@@ -24,8 +24,8 @@ returns g c =
     let Q = g.M.Memo.recalls c.apply.new.memo in
     let rows : s.inputs < length c.args.rows.now = omega (arith, c.inputs.ensures) in
     let known = sym c.knows.ensures ∙ c.if-not-knows.false in
-    let left = sym c.lawful.ensures ∙ c.if-not-lawful.false in
-    let right = sym c.lawful-2.ensures ∙ c.if-not-lawful-2.false in
+    let left = c.in_ok-check_lawful.ensures in
+    let right = c.in_ok-check_lawful-2.ensures in
     let passed = passes _ _ _ (lt-ltb s.inputs (length c.args.rows.now) rows) ∙ passes _ _ _ known ∙ passes _ _ _ left ∙ passes _ _ _ right in
     record {
       shape = subst (λ z. Shape s t (g.M.Memo.recalls c.args.memo.now) Q z c.apply.result) (sym passed) c.apply.ensures.shape;

@@ -17,7 +17,7 @@ collect-requires g c =
     let o = g.G.Algebra.ops in
     let s = view c.args.self.now in
     let h = c.args.h in
-    let l : lawful o s h ≡ true = sym c.is_lawful.ensures ∙ c.if-not-is_lawful.false in
+    let l = c.in_ok-check_lawful.ensures in
     record {
       within = lawful_within o s h l;
       enough = omega (arith, c.clear.auto.rows);
@@ -30,7 +30,7 @@ returns g c =
     let s = view c.args.self.now in
     let h = c.args.h in
     let n = length c.args.rows.now in
-    let l : lawful o s h ≡ true = sym c.is_lawful.ensures ∙ c.if-not-is_lawful.false in
+    let l = c.in_ok-check_lawful.ensures in
     let enough : ltb s.inputs n ≡ true = lt-ltb s.inputs n (omega arith) in
     let passes : support_refusal o s n h ≡ None = passed (ltb s.inputs n) FewRows (test (lawful o s h) NoSuchHandle None) enough ∙ passed (lawful o s h) NoSuchHandle None l in
     record {

@@ -9,7 +9,7 @@ pub returns : goal.returns
 returns g c =
     let s = view c.args.self.now in
     let rows : s.inputs < length c.args.rows.now = omega (arith, c.inputs.ensures) in
-    let lawful = sym c.lawful.ensures ∙ c.if-not-lawful.false in
+    let lawful = c.in_ok-check_lawful.ensures in
     let passed = passes _ _ _ (lt-ltb s.inputs (length c.args.rows.now) rows) ∙ passes _ _ _ lawful in
     record {
       shape = subst (λ z. Shape s (view c.apply.new.self) (g.M.Memo.recalls c.args.memo.now) (g.M.Memo.recalls c.apply.new.memo) z c.apply.result) (sym passed) c.apply.ensures.shape;
