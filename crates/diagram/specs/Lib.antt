@@ -3,3 +3,4 @@ pub mod Chains
 pub mod Uses
 pub mod Views
 pub mod Shortcuts
+pub mod Tasks

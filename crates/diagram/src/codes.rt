@@ -5,7 +5,7 @@ use algebra::Algebra;
 
 mod masks;
 
-pub(crate) use masks::is_up;
+pub(crate) use masks::{MOST_CODES, is_up};
 
 // An algebra with two masks of its codes: those that are not settled, and those that are firm, settled and different from
 // their NOT. They are asked for once in a call, so that a test of a mask is one operation on bits.

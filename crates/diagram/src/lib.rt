@@ -9,6 +9,7 @@ mod readings;
 mod shortcut;
 mod steps;
 mod table;
+mod task;
 mod walk;
 
 pub use memo::{Memo, NoMemo, RowMemo};

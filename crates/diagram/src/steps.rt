@@ -7,13 +7,15 @@ ghost use Rattle.memo.specs.Memos.{Pairs};
 ghost use Rattle.records.specs.Outcomes.{Shape, Meaning, Means, TruePairs};
 ghost use Rattle.records.specs.Rules.{Sound, Lawful};
 ghost use Rattle.records.specs.Stores.{value};
+ghost use Rattle.diagram.specs.Tasks.{number_of};
 ghost use Rattle.diagram.specs.Views.{view, room};
 ghost use Rattle.records.specs.Walks.{combined};
 
 use crate::codes::Codes;
 use crate::table::Table;
-use crate::walk::{TURN, walk};
-use algebra::Algebra;
+use crate::task::{Operation, Task};
+use crate::walk::walk;
+use algebra::{Algebra, Op};
 use memo::Memo;
 use records::{Row, TableFault};
 
@@ -60,26 +62,24 @@ impl Table {
         Ok(code as u32)
     }
 
-    // The walk over two handles; if it finds the table full, back to the places that were in use, and the memo forgets.
+    // The walk of a task; if it finds the table full, back to the places that were in use, and the memo forgets.
     fn apply<G: Algebra, M: Memo>(
         &mut self,
         codes: &Codes<G>,
         memo: &mut M,
         rows: &mut [Row],
-        op: u8,
-        x: u32,
-        y: u32,
+        task: Task,
     ) -> Result<u32, TableFault>
-        requires x { Within (view self.old) x }
-        requires y { Within (view self.old) y }
+        requires x { Within (view self.old) task.x }
+        requires y { Within (view self.old) task.y }
         requires rows { (view self.old).inputs < length rows.old }
         ensures shape { Shape (view self.old) (view self.new) (M.recalls memo.old) (M.recalls memo.new) None result }
-        ensures meaning { Sound G.ops (view self.old) → TruePairs G.ops (view self.old) (M.recalls memo.old) → Lawful G.ops (view self.old) x → Lawful G.ops (view self.old) y
-            → Means G.ops (room self.old) (view self.old) (view self.new) (M.recalls memo.new) (combined G.ops (view self.old) op x y) result }
+        ensures meaning { Sound G.ops (view self.old) → TruePairs G.ops (view self.old) (M.recalls memo.old) → Lawful G.ops (view self.old) task.x → Lawful G.ops (view self.old) task.y
+            → Means G.ops (room self.old) (view self.old) (view self.new) (M.recalls memo.new) (combined G.ops (view self.old) (number_of task.operation) task.x task.y) result }
         ensures room { room self.new ≡ room self.old }
     {
         let used = self.used();
-        match walk(self, codes, memo, rows, op, x, y) {
+        match walk(self, codes, memo, rows, task) {
             Ok(h) => Ok(h),
             Err(_) => {
                 self.cut_back(memo, used);
@@ -106,7 +106,8 @@ impl Table {
         }
         let codes = Codes::of(algebra);
         self.check_lawful(&codes, x)?;
-        self.apply(&codes, memo, rows, TURN, x, x)
+        let operation = Operation::Turn;
+        self.apply(&codes, memo, rows, Task { operation, x, y: x })
     }
 
     // The handle of what an operator, by its number, gives of two handles' signals.
@@ -130,9 +131,10 @@ impl Table {
         if !algebra.knows(op) {
             return Err(TableFault::NoSuchOperator);
         }
+        let operation = Operation::Join(Op::from_number(op).ok_or(TableFault::NoSuchOperator)?);
         let codes = Codes::of(algebra);
         self.check_lawful(&codes, x)?;
         self.check_lawful(&codes, y)?;
-        self.apply(&codes, memo, rows, op, x, y)
+        self.apply(&codes, memo, rows, Task { operation, x, y })
     }
 }

@@ -1,5 +1,6 @@
 use Rattle.std.proofs.Common.{refl, ◌∙◌, subst, inr}
 use Rattle.records.specs.Steps.{Back}
+use Rattle.diagram.specs.Tasks.{number_of}
 use Rattle.diagram.specs.Views.{view, room}
 use Rattle.records.specs.Walks.{combined}
 use Rattle.records.proofs.Shapes.{well}
@@ -17,6 +18,6 @@ returns-in-Err g c =
       shape = inr (record { passed = refl; full = refl; table = back_again walked.grows back; memo = c.cut_back.ensures.memo });
       meaning = λ sound pairs lx ly.
           overfull g.G.Algebra.laws (well c.args.self.now.well) (well c.walk.new.table.well) walked.grows (room c.args.self.now)
-          (combined o s c.args.op c.args.x c.args.y) (walked.meaning sound pairs lx ly);
+          (combined o s (number_of c.args.task.operation) c.args.task.x c.args.task.y) (walked.meaning sound pairs lx ly);
       room = c.cut_back.ensures.room ∙ walked.room;
     }
