@@ -1,8 +1,11 @@
 -- What a walk that ran out of places says of the number of parts, and what cutting back leaves. Assumes nothing.
-use Rattle.std.proofs.Common.{◌≡◌, ℕ, zero, suc, ◌<◌, ◌≤◌, Bool, true, false, cond, eqb, List, [], ◌∷◌, is_err, Some, Option, Ok, Err, Result, sym, refl, ap, ◌∙◌, subst, inl, ⊎_elim, suc-le-suc, arith}
-use Rattle.std.proofs.lemmas.Bool.{cases_lt, cond_both, eqb-true, eqb-false, ne_eqb, both_ways, false≢true}
+use Rattle.std.proofs.Common.{◌≡◌, ℕ, zero, suc, ◌<◌, ◌≤◌, Bool, true, false, cond, eqb, List, [], ◌∷◌, is_err, Some, None, Option, Ok, Err, Result, sym, refl, ap, ◌∙◌, subst, inl, ⊎_elim, suc-le-suc, arith}
+use Rattle.std.proofs.lemmas.Bool.{cases_lt, cases_Bool, cond_both, cond-true, cond-false, eqb-true, eqb-false, ne_eqb, both_ways, false≢true}
 use Rattle.algebra.specs.Ops.{Ops, known}
 use Rattle.algebra.specs.Laws.{Laws}
+use Rattle.algebra.specs.Operators.{op_number, op_of, own_op}
+use Rattle.algebra.specs.declared.operator.Op.{Op}
+use Rattle.algebra.specs.declared.operator.Op.TheVariants.{And, Or, IfAnd, IfOr, Wire, Grade}
 use Rattle.netlist.specs.Signals.{Signal, Agree, bit, input, constant, joined}
 use Rattle.netlist.specs.Parts.{part_count}
 use Rattle.records.specs.declared.fault.TableFault.{TableFault}
@@ -16,7 +19,7 @@ use Rattle.records.specs.Makings.{Chosen, Crowded}
 use Rattle.memo.specs.Memos.{Pairs}
 use Rattle.records.specs.Counts.{PartIn, DifferentParts}
 use Rattle.records.specs.Outcomes.{TruePairs, ResultOf, Overfull}
-use Rattle.records.specs.Walks.{combined, RanOut}
+use Rattle.records.specs.Walks.{combine, combined, RanOut}
 use Rattle.records.specs.Faults.{test}
 use Rattle.diagram.specs.Views.{view, room}
 use Rattle.records.proofs.Counting.{one_more, part_in_one}
@@ -111,6 +114,45 @@ pub operator_joins : (o : Ops) (s : Store) (k x y : ℕ) → known o k ≡ true 
 operator_joins o s k x y e =
     ap (λ b. λ p. cond b (o.turn (value o s x p)) (o.op k (value o s x p) (value o s y p)))
     (ne_eqb k 2 (λ two. both_ways (known o 2) refl (ap (known o) (sym two) ∙ e)))
+
+-- ---- the operator of a number
+
+numbered : (n m : ℕ) (a k : Op) (rest : Option Op) → op_number a ≡ m → (rest ≡ Some k → op_number k ≡ n) → cond (eqb n m) (Some a) rest ≡ Some k → op_number k ≡ n
+numbered n m a k rest e later is =
+    ⊎_elim
+    (λ t. let some : Some a ≡ Some k = sym (cond-true (eqb n m) (Some a) rest t) ∙ is in
+    let same : a ≡ k = cc in
+    sym (ap op_number same) ∙ e ∙ sym (eqb-true n m t))
+    (λ t. later (sym (cond-false (eqb n m) (Some a) rest t) ∙ is))
+    (cases_Bool (eqb n m))
+
+op_numbered : (n : ℕ) (k : Op) → op_of n ≡ Some k → op_number k ≡ n
+op_numbered n k =
+    numbered n 3 And k _ refl
+    (numbered n 4 Or k _ refl
+    (numbered n 5 IfAnd k _ refl
+    (numbered n 6 IfOr k _ refl
+    (numbered n 7 Wire k _ refl
+    (numbered n 9 Grade k _ refl (λ e. absurd (none_some e)))))))
+  where
+    none_some : ◌≡◌ {A = Option Op} None (Some k) → ⊥
+    none_some e = let z : ◌≡◌ {A = ℕ} 0 1 = cc in omega arith
+
+pub own_operator : (o : Ops) (n : ℕ) (k : Op) → own_op o n ≡ Some k → (known o n ≡ true) × (op_number k ≡ n)
+own_operator o n k e =
+    ⊎_elim
+    (λ t. (t, op_numbered n k (sym (cond-true (known o n) (op_of n) None t) ∙ e)))
+    (λ t. let none : None ≡ Some k = sym (cond-false (known o n) (op_of n) None t) ∙ e in
+    let z : ◌≡◌ {A = ℕ} 0 1 = cc in absurd (omega arith))
+    (cases_Bool (known o n))
+
+pub join_combines : (o : Ops) (k : Op) (a b : ℕ) → o.op (op_number k) a b ≡ combine o (op_number k) a b
+join_combines o And a b = refl
+join_combines o Or a b = refl
+join_combines o IfAnd a b = refl
+join_combines o IfOr a b = refl
+join_combines o Wire a b = refl
+join_combines o Grade a b = refl
 
 -- ---- the places
 

@@ -36,8 +36,12 @@ fn gives<G: Algebra, F: Fn(u8) -> u8>(algebra: &G, task: Task, reach: u16, wante
     ensures { T result → (v : ℕ) → v < G.ops.count → up reach v ≡ true
         → F.post wanted v (combine G.ops (number_of task.operation) (operand task.x v) (operand task.y v)) }
 {
-    (0..algebra.value_count().min(MOST_CODES))
-        .all(|v| !is_up(reach, v) || value_at(algebra, task, v) == wanted(v))
+    for v in 0..G::COUNT.min(MOST_CODES) {
+        if is_up(reach, v) && value_at(algebra, task, v) != wanted(v) {
+            return false;
+        }
+    }
+    true
 }
 
 // The result by the values of the operand that is no constant.
@@ -82,8 +86,7 @@ pub(crate) fn shortcut<G: Algebra>(table: &Table, codes: &Codes<G>, task: Task) 
         (Short G.ops (view table.now) (number_of task.operation) task.x task.y) }
 {
     if is_constant(task.x) && is_constant(task.y) {
-        let value = task.operation
-            .at(codes.algebra, task.x as u8, task.y as u8);
+        let value = task.operation.at(codes.algebra, task.x as u8, task.y as u8);
         return Some(value as u32);
     }
     match task.operation {

@@ -15,7 +15,7 @@ use crate::codes::Codes;
 use crate::table::Table;
 use crate::task::{Operation, Task};
 use crate::walk::walk;
-use algebra::{Algebra, Op};
+use algebra::Algebra;
 use memo::Memo;
 use records::{Row, TableFault};
 
@@ -56,7 +56,7 @@ impl Table {
         ensures meaning { (P : Pairs) → Meaning G.ops (room self.now) (view self.now) (view self.now) P P (constant_signal code) result }
         ensures fits { (view self.now).used ≤ room self.now }
     {
-        if code >= algebra.value_count() {
+        if code >= G::COUNT {
             return Err(TableFault::NoSuchCode);
         }
         Ok(code as u32)
@@ -128,13 +128,11 @@ impl Table {
         if rows.len() <= self.inputs() as usize {
             return Err(TableFault::FewRows);
         }
-        if !algebra.knows(op) {
-            return Err(TableFault::NoSuchOperator);
-        }
-        let operation = Operation::Join(Op::from_number(op).ok_or(TableFault::NoSuchOperator)?);
+        let operator = algebra.operator(op).ok_or(TableFault::NoSuchOperator)?;
         let codes = Codes::of(algebra);
         self.check_lawful(&codes, x)?;
         self.check_lawful(&codes, y)?;
+        let operation = Operation::Join(operator);
         self.apply(&codes, memo, rows, Task { operation, x, y })
     }
 }

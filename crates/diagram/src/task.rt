@@ -26,7 +26,7 @@ impl Operation {
     {
         match self {
             Operation::Turn => 2,
-            Operation::Join(op) => op.number(),
+            Operation::Join(op) => u8::from(op),
         }
     }
 

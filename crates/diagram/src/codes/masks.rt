@@ -20,7 +20,7 @@ pub(crate) fn is_up(mask: u16, v: u8) -> bool
 fn is_settled_code<G: Algebra>(algebra: &G, v: u8) -> bool
     ensures { result ≡ settled_code G.ops v }
 {
-    v < algebra.value_count() && algebra.is_settled(v)
+    v < G::COUNT && algebra.is_settled(v)
 }
 
 fn is_firm_code<G: Algebra>(algebra: &G, v: u8) -> bool

@@ -60,7 +60,7 @@ impl Table {
     {
         let codes = Codes::of(algebra);
         self.check_lawful(&codes, h)?;
-        if wanted >= algebra.value_count() {
+        if wanted >= G::COUNT {
             return Err(TableFault::NoSuchCode);
         }
         if !is_up(self.reach_of(&codes, h), wanted) {

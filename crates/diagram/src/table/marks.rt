@@ -67,7 +67,7 @@ impl Table {
         ensures { result ≡ lawful G.ops (view self.now) h }
     {
         if is_constant(h) {
-            return h < codes.algebra.value_count() as u32;
+            return h < G::COUNT as u32;
         }
         let p = place_of(h);
         if p >= self.used() {
@@ -80,7 +80,11 @@ impl Table {
     }
 
     // Refuses a handle that is not lawful.
-    pub(crate) fn check_lawful<G: Algebra>(&self, codes: &Codes<G>, h: u32) -> Result<(), TableFault>
+    pub(crate) fn check_lawful<G: Algebra>(
+        &self,
+        codes: &Codes<G>,
+        h: u32,
+    ) -> Result<(), TableFault>
         ensures { MatchResult result
             (λ _. Lawful G.ops (view self.now) h)
             (λ f. (f ≡ TableFault.NoSuchHandle) × (lawful G.ops (view self.now) h ≡ false)) }

@@ -1,6 +1,7 @@
-use Rattle.std.proofs.Common.{◌+◌, ◌≤◌, min, length, sym, refl, ap, ◌∙◌, arith, rules}
+use Rattle.std.proofs.Common.{◌+◌, ◌≤◌, min, length, sym, refl, ap, ◌∙◌, subst, arith, rules}
 use Rattle.std.proofs.lemmas.Bool.{ltb-true}
 use Rattle.std.proofs.lemmas.Bool.Decides.{when_true}
+use Rattle.memo.specs.Memos.{Puts}
 use Rattle.records.specs.Makings.{From}
 use Rattle.records.specs.Rules.{settled_mask}
 use Rattle.records.specs.Stores.{level}
@@ -39,7 +40,7 @@ returns-then-is_from g t c =
       room = refl {a = room c.args.table.now};
       shape = moved_from s _ _ c.in-Some-get.h (let a = c.min-input.ensures in let b = c.level.ensures in let d = c.level-2.ensures in cc) r;
       meaning = λ sound pairs lx ly.
-          recalled_result o s (g.M.Memo.recalls c.args.memo.now) (number_of c.args.task.operation) c.args.task.x c.args.task.y c.in-Some-get.h (sym (c.get.ensures ∙ ap (λ k. g.M.Memo.recalls c.args.memo.now k c.args.task.x c.args.task.y) c.number.ensures) ∙ c.in-Some-get.is) sound pairs;
+          recalled_result o s (g.M.Memo.recalls c.args.memo.now) (number_of c.args.task.operation) c.args.task.x c.args.task.y c.in-Some-get.h (sym (c.get.ensures ∙ ap (λ k. g.M.Memo.recalls c.args.memo.now k c.args.task.x c.args.task.y) c.number-number.ensures) ∙ c.in-Some-get.is) sound pairs;
     }
 
 pub walk-requires : goal.walk-requires
@@ -49,8 +50,8 @@ walk-requires g t c κs within =
     let rows = low_rows _ _ _ _ _ _ _ _ (length c.split_at_mut-own.result.1.now) cut c.requires.rows rest in
     (search rules, (within.0, (within.1, (cut.low.beyond.within, (cut.low_other.beyond.within, rows)))))
 
-pub returns-in_err-low : goal.returns-in_err-low
-returns-in_err-low g t c =
+pub returns-in_err-own : goal.returns-in_err-own
+returns-in_err-own g t c =
     let laws = g.G.Algebra.laws in
     let recalls = g.M.Memo.recalls in
     let s = view c.args.table.now in
@@ -65,7 +66,7 @@ returns-in_err-low g t c =
       shape = shape_out s t1 c.args.task.x c.args.task.y c.from_residual.result err;
       meaning =
           walked_out_low laws s w (recalls c.args.memo.now) (number_of c.args.task.operation) c.args.task.x c.args.task.y row.input row.low row.high row.low_other row.high_other cut t1
-          (room c.args.table.now) (recalls c.walk.new.memo) c.from_residual.result err c.walk.ensures.grows c.in_err-low.ensures.meaning;
+          (room c.args.table.now) (recalls c.walk.new.memo) c.from_residual.result err c.walk.ensures.grows c.in_err-own.ensures.meaning;
     }
 
 pub walk-requires-2 : goal.walk-requires-2
@@ -93,7 +94,7 @@ returns-in_err-high g t c =
       shape = shape_out s t2 c.args.task.x c.args.task.y c.from_residual-in_err-high.result err;
       meaning =
           walked_out_high laws s w (recalls c.args.memo.now) (number_of c.args.task.operation) c.args.task.x c.args.task.y row.input row.low row.high row.low_other row.high_other cut
-          t1 (well c.walk.new.table.well) c.walk.ensures.grows (recalls c.walk.new.memo) c.in_ok-low.low c.in_ok-low.ensures.meaning
+          t1 (well c.walk.new.table.well) c.walk.ensures.grows (recalls c.walk.new.memo) c.in_ok-own.field-0 c.in_ok-own.ensures.meaning
           t2 (room c.args.table.now) (room c.walk.new.table) (recalls c.walk-2.new.memo) c.from_residual-in_err-high.result err c.walk.ensures.room
           c.walk-2.ensures.grows c.in_err-high.ensures.meaning;
     }
@@ -105,7 +106,7 @@ make-requires g t c =
     let second = c.walk-2.ensures.grows in
     record {
       inside = omega (arith, first.inputs, second.inputs, cut.inside);
-      low = low_beyond _ _ _ _ _ _ _ cut first second c.in_ok-low.low c.in_ok-low.ensures.shape;
+      low = low_beyond _ _ _ _ _ _ _ cut first second c.in_ok-own.field-0 c.in_ok-own.ensures.shape;
       high = high_beyond _ _ _ _ _ _ _ cut first second c.in_ok-high.high c.in_ok-high.ensures.shape;
     }
 
@@ -128,7 +129,7 @@ returns-in_err-h g t c =
       shape = shape_out s t3 c.args.task.x c.args.task.y c.from_residual-in_err-h.result err;
       meaning =
           walked_out_made laws s w (recalls c.args.memo.now) (number_of c.args.task.operation) c.args.task.x c.args.task.y row.input row.low row.high row.low_other row.high_other cut
-          t1 (well c.walk.new.table.well) c.walk.ensures.grows (recalls c.walk.new.memo) c.in_ok-low.low c.in_ok-low.ensures.meaning
+          t1 (well c.walk.new.table.well) c.walk.ensures.grows (recalls c.walk.new.memo) c.in_ok-own.field-0 c.in_ok-own.ensures.meaning
           t2 (well c.walk-2.new.table.well) c.walk-2.ensures.grows (recalls c.walk-2.new.memo) c.in_ok-high.high c.in_ok-high.ensures.meaning
           t3 (room c.args.table.now) (room c.walk-2.new.table) (recalls c.walk-2.new.memo) c.from_residual-in_err-h.result err places c.in_err-h.ensures.shape
           c.in_err-h.ensures.meaning;
@@ -151,7 +152,7 @@ returns g t c =
       shape = moved_from t3 row.input (min (level s c.args.task.x) (level s c.args.task.y)) c.in_ok-h.h c.cut.ensures.input_is c.in_ok-h.ensures.shape;
       meaning =
           walked_made laws s w (recalls c.args.memo.now) (number_of c.args.task.operation) c.args.task.x c.args.task.y row.input row.low row.high row.low_other row.high_other cut
-          t1 (well c.walk.new.table.well) c.walk.ensures.grows (recalls c.walk.new.memo) c.in_ok-low.low c.in_ok-low.ensures.meaning
+          t1 (well c.walk.new.table.well) c.walk.ensures.grows (recalls c.walk.new.memo) c.in_ok-own.field-0 c.in_ok-own.ensures.meaning
           t2 (well c.walk-2.new.table.well) c.walk-2.ensures.grows (recalls c.walk-2.new.memo) c.in_ok-high.high c.in_ok-high.ensures.meaning
-          t3 c.make.ensures.grows (recalls c.put.new.self) c.in_ok-h.h c.in_ok-h.ensures.meaning c.put.ensures;
+          t3 c.make.ensures.grows (recalls c.put.new.self) c.in_ok-h.h c.in_ok-h.ensures.meaning (subst (λ k. Puts (recalls c.walk-2.new.memo) (recalls c.put.new.self) k c.args.task.x c.args.task.y c.in_ok-h.h) c.number-number.ensures c.put.ensures);
     }

@@ -10,7 +10,7 @@ returns g c =
     let o = g.G.Algebra.ops in
     let laws = g.G.Algebra.laws in
     let s = view c.args.self.now in
-    let few : c.args.code < o.count = omega (arith, c.value_count.ensures) in
+    let few : c.args.code < o.count = omega (arith, g.G.Algebra.counts) in
     record {
       shape = λ P. record { passed = passes _ _ _ (lt-ltb c.args.code o.count few); grows = grows_refl s; within = omega (arith, laws.sixteen_at_most) };
       meaning = λ P sound pairs. constant_result laws s P c.args.code few sound pairs;
