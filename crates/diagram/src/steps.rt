@@ -101,9 +101,7 @@ impl Table {
         ensures room { room self.new ≡ room self.old }
         ensures fits { (view self.new).used ≤ room self.new }
     {
-        if rows.len() <= self.inputs() as usize {
-            return Err(TableFault::FewRows);
-        }
+        self.check_rows(rows)?;
         let codes = Codes::of(algebra);
         self.check_lawful(&codes, x)?;
         let operation = Operation::Turn;
@@ -125,9 +123,7 @@ impl Table {
         ensures room { room self.new ≡ room self.old }
         ensures fits { (view self.new).used ≤ room self.new }
     {
-        if rows.len() <= self.inputs() as usize {
-            return Err(TableFault::FewRows);
-        }
+        self.check_rows(rows)?;
         let operator = algebra.operator(op).ok_or(TableFault::NoSuchOperator)?;
         let codes = Codes::of(algebra);
         self.check_lawful(&codes, x)?;

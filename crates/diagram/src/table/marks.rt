@@ -70,13 +70,7 @@ impl Table {
             return h < G::COUNT as u32;
         }
         let p = place_of(h);
-        if p >= self.used() {
-            return false;
-        }
-        if !is_marked(h) {
-            return true;
-        }
-        codes.may_mark(self.record_at(p).reach)
+        p < self.used() && (!is_marked(h) || codes.may_mark(self.record_at(p).reach))
     }
 
     // Refuses a handle that is not lawful.

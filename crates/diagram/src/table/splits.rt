@@ -17,13 +17,7 @@ impl Table {
     pub(crate) fn is_from(&self, h: u32, input: u8) -> bool
         ensures { MatchBool result (From (view self.now) input h) (Unit {0}) }
     {
-        if is_constant(h) {
-            return input <= self.inputs;
-        }
-        if place_of(h) >= self.used() {
-            return false;
-        }
-        input <= self.level(h)
+        (is_constant(h) || place_of(h) < self.used()) && input <= self.level(h)
     }
 
     // What is left of a handle at an input that it tests first or not at all; under a mark the sides are turned.

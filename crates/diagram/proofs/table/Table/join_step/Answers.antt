@@ -7,24 +7,13 @@ use Rattle.diagram.specs.Views.{view, room}
 use Rattle.diagram.proofs.Fulls.{own_operator, operator_joins, table_fits, passes, fails}
 use Rattle.diagram.proofs.table.Table.join_step.Goals as goal
 
-pub returns-then-rows-inputs : goal.returns-then-rows-inputs
-returns-then-rows-inputs g c =
-    let s = view c.args.self.now in
-    let rows : length c.args.rows.now ≤ s.inputs = omega (arith, c.inputs.ensures) in
-    record {
-      shape = inl (record { why = fails _ _ _ (le-ltb s.inputs (length c.args.rows.now) rows); table = refl; memo = refl });
-      meaning = λ sound pairs. tt;
-      room = refl;
-      fits = table_fits c.args.self.now;
-    }
-
 pub returns : goal.returns
 returns g c =
     let o = g.G.Algebra.ops in
     let s = view c.args.self.now in
     let t = view c.apply.new.self in
     let Q = g.M.Memo.recalls c.apply.new.memo in
-    let rows : s.inputs < length c.args.rows.now = omega (arith, c.inputs.ensures) in
+    let rows = c.in_ok-check_rows.ensures in
     let own = own_operator o c.args.op c.in_ok-operator.operator (sym c.operator.ensures ∙ c.ok_or.ensures.ok_part ∙ ap result_ok c.in_ok-operator.was) in
     let left = c.in_ok-check_lawful.ensures in
     let right = c.in_ok-check_lawful-2.ensures in

@@ -6,8 +6,8 @@ use Rattle.diagram.specs.Views.{view}
 use Rattle.diagram.proofs.Passes.{told_lawful}
 use Rattle.diagram.proofs.table.Table.lawful.Goals as goal
 
-pub returns : goal.returns
-returns g c =
+pub returns-else-not-is_marked : goal.returns-else-not-is_marked
+returns-else-not-is_marked g c =
     let o = g.G.Algebra.ops in
     let s = view c.args.self.now in
     let h = c.args.h in

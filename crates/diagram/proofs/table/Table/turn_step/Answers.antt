@@ -8,7 +8,7 @@ use Rattle.diagram.proofs.table.Table.turn_step.Goals as goal
 pub returns : goal.returns
 returns g c =
     let s = view c.args.self.now in
-    let rows : s.inputs < length c.args.rows.now = omega (arith, c.inputs.ensures) in
+    let rows = c.in_ok-check_rows.ensures in
     let lawful = c.in_ok-check_lawful.ensures in
     let passed = passes _ _ _ (lt-ltb s.inputs (length c.args.rows.now) rows) ∙ passes _ _ _ lawful in
     record {
