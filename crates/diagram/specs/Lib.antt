@@ -4,3 +4,4 @@ pub mod Uses
 pub mod Views
 pub mod Shortcuts
 pub mod Tasks
+pub mod Settles

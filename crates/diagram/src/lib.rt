@@ -7,7 +7,6 @@ mod handle;
 mod places;
 mod readings;
 mod shortcut;
-mod steps;
 mod table;
 mod task;
 mod walk;
