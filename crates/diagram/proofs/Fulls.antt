@@ -58,25 +58,18 @@ back_again grows back = record { inputs = back.inputs ∙ grows.inputs; used = b
 
 -- ---- a table that is settled
 
-settled_shape : (s t u : Store) (P Q R : Pairs) (r : Result ℕ Full) (result : Result ℕ TableFault) → Grows s t → ((h : ℕ) → r ≡ Ok h → Within t h) → Settled t s.used u Q R r result → Shape s u P R None result
-settled_shape s t u P Q R (Ok h) result grows within (e, same, forgot) =
+pub settled_shape : (s t u : Store) (P Q R : Pairs) (n : ℕ) (r : Result ℕ Full) (result : Result ℕ TableFault) → n ≡ s.used → Grows s t → ((h : ℕ) → r ≡ Ok h → Within t h) → Settled t n u Q R r result → Shape s u P R None result
+settled_shape s t u P Q R n (Ok h) result used grows within (e, same, forgot) =
     subst (Shape s u P R None) (sym e) (record { passed = refl; grows = subst (Grows s) (sym same) grows; within = subst (λ z. Within z h) (sym same) (within h refl) })
-settled_shape s t u P Q R (Err f) result grows within (e, back, forgot) =
-    subst (Shape s u P R None) (sym e) (inr (record { passed = refl; full = refl; table = back_again grows back; memo = forgot }))
+settled_shape s t u P Q R n (Err f) result used grows within (e, back, forgot) =
+    subst (Shape s u P R None) (sym e) (inr (record { passed = refl; full = refl; table = back_again grows (subst (λ k. Back t k u) used back); memo = forgot }))
 
-settled_meaning : {o : Ops} → Laws o → {s t : Store} → Well s → Well t → (room : ℕ) (u : Store) (Q R : Pairs) (f : Signal) (r : Result ℕ Full) (result : Result ℕ TableFault)
-    → Grows s t → ((h : ℕ) → r ≡ Ok h → ResultOf o s t Q f h) → ((e : Full) → r ≡ Err e → RanOut o room s t f) → Settled t s.used u Q R r result → Means o room s u R f result
-settled_meaning {o} laws {s} {t} w v room u Q R f (Ok h) result grows made out (e, same, kept) =
-    subst (Means o room s u R f) (sym e) (subst (λ z. ResultOf o s z R f h) (sym same) (subst (λ z. ResultOf o s t z f h) (sym kept) (made h refl)))
-settled_meaning {o} laws {s} {t} w v room u Q R f (Err full) result grows made out (e, back, forgot) =
-    subst (Means o room s u R f) (sym e) (overfull laws w v grows room f (out full refl))
-
-pub settled_shape_at : (s t u : Store) (P Q R : Pairs) (n : ℕ) (r : Result ℕ Full) (result : Result ℕ TableFault) → n ≡ s.used → Grows s t → ((h : ℕ) → r ≡ Ok h → Within t h) → Settled t n u Q R r result → Shape s u P R None result
-settled_shape_at s t u P Q R n r result e grows within settled = settled_shape s t u P Q R r result grows within (subst (λ k. Settled t k u Q R r result) e settled)
-
-pub settled_means_at : {o : Ops} → Laws o → {s t : Store} → Well s → Well t → (room : ℕ) (u : Store) (Q R : Pairs) (f : Signal) (n : ℕ) (r : Result ℕ Full) (result : Result ℕ TableFault) → n ≡ s.used
+pub settled_means : {o : Ops} → Laws o → {s t : Store} → Well s → Well t → (room : ℕ) (u : Store) (Q R : Pairs) (f : Signal) (n : ℕ) (r : Result ℕ Full) (result : Result ℕ TableFault)
     → Grows s t → ((h : ℕ) → r ≡ Ok h → ResultOf o s t Q f h) → ((e : Full) → r ≡ Err e → RanOut o room s t f) → Settled t n u Q R r result → Means o room s u R f result
-settled_means_at laws {s} {t} w v room u Q R f n r result e grows made out settled = settled_meaning laws w v room u Q R f r result grows made out (subst (λ k. Settled t k u Q R r result) e settled)
+settled_means {o} laws {s} {t} w v room u Q R f n (Ok h) result grows made out (e, same, kept) =
+    subst (Means o room s u R f) (sym e) (subst (λ z. ResultOf o s z R f h) (sym same) (subst (λ z. ResultOf o s t z f h) (sym kept) (made h refl)))
+settled_means {o} laws {s} {t} w v room u Q R f n (Err full) result grows made out (e, back, forgot) =
+    subst (Means o room s u R f) (sym e) (overfull laws w v grows room f (out full refl))
 
 -- ---- a refused call changes nothing
 
@@ -202,14 +195,6 @@ no_operator o n e =
     (λ t. unnumbered o n (sym (cond-true (known o n) (op_of n) None t) ∙ e))
     (λ t. t)
     (cases_Bool (known o n))
-
-pub join_combines : (o : Ops) (k : Op) (a b : ℕ) → o.op (op_number k) a b ≡ combine o (op_number k) a b
-join_combines o And a b = refl
-join_combines o Or a b = refl
-join_combines o IfAnd a b = refl
-join_combines o IfOr a b = refl
-join_combines o Wire a b = refl
-join_combines o Grade a b = refl
 
 -- ---- the places
 

@@ -11,7 +11,8 @@ use Rattle.records.specs.declared.record.Record.{Record}
 use Rattle.records.specs.Stores.{Store, place, marked, up}
 use Rattle.records.specs.Rules.{settled_code, firm_code, settled_mask, firm_mask, may_mark, lawful}
 use Rattle.records.specs.Marks.{negate, turn_below, turn_mask, reach_of, union, leads_plain, lead, turns, kept}
-use Rattle.diagram.specs.Codes.{mask_below, loose_codes, firm_codes}
+use Rattle.records.specs.Supports.{mask_below}
+use Rattle.diagram.specs.Codes.{loose_codes, firm_codes}
 use Rattle.records.proofs.Bits.{same_bits}
 use Rattle.records.proofs.Masks.{all_at, all_from}
 use Rattle.records.proofs.Reaches.{up_none, up_one, up_only, up_union, up_union_right}

@@ -1,5 +1,5 @@
 use Rattle.std.proofs.Common.{◌≡◌, not, refl, ap, ◌∙◌, arith}
-use Rattle.diagram.specs.Codes.{mask_below}
+use Rattle.records.specs.Supports.{mask_below}
 use Rattle.records.specs.Rules.{settled_code, firm_code}
 use Rattle.diagram.proofs.Passes.{mask_more}
 use Rattle.diagram.proofs.codes.Codes.of.Goals as goal

@@ -9,7 +9,7 @@ use Rattle.records.specs.Walks.{RanOut}
 use Rattle.diagram.specs.Views.{view, room}
 use Rattle.records.proofs.Events.{kept_input}
 use Rattle.records.proofs.Shapes.{well}
-use Rattle.diagram.proofs.Fulls.{settled_shape_at, settled_means_at, stopped, bit_lawful, input_result, input_out, table_fits, passes, fails}
+use Rattle.diagram.proofs.Fulls.{settled_shape, settled_means, stopped, bit_lawful, input_result, input_out, table_fits, passes, fails}
 use Rattle.diagram.proofs.table.Table.input.Goals as goal
 
 pub returns-then-input-inputs-clause-kept : goal.returns-then-input-inputs-clause-kept
@@ -41,11 +41,11 @@ returns g c =
     let high = bit_lawful laws s 1 (omega arith) in
     let passed = passes _ _ _ (lt-ltb i s.inputs inside) in
     let shape : Shape s u P R (input_refusal s i) c.settle.result = subst (λ z. Shape s u P R z c.settle.result) (sym passed)
-    (settled_shape_at s t u P P R c.used-used.result c.make-made.result _ c.used-used.ensures made.grows
+    (settled_shape s t u P P R c.used-used.result c.make-made.result _ c.used-used.ensures made.grows
     (λ h e. (subst (MakeShape s t i) e made.shape).within)
     c.settle.ensures.outcome) in
     let meaning : Meaning o n s u P R (input s.inputs i) c.settle.result = λ sound pairs.
-    settled_means_at laws w (well c.make-made.new.self.well) n u P R (input s.inputs i) c.used-used.result c.make-made.result _ c.used-used.ensures made.grows
+    settled_means laws w (well c.make-made.new.self.well) n u P R (input s.inputs i) c.used-used.result c.make-made.result _ made.grows
     (λ h e. input_result w made.grows P i h pairs (subst (MakeMeans o n s t i 0 1) e (made.meaning sound low high)))
     (λ f e. subst (λ z. RanOut o n s z (input s.inputs i)) (sym (subst (MakeShape s t i) e made.shape)) (input_out n s i sound (subst (MakeMeans o n s t i 0 1) e (made.meaning sound low high))))
     c.settle.ensures.outcome in
