@@ -24,6 +24,7 @@ use Rattle.records.specs.Walks.{combine, combined, RanOut}
 use Rattle.records.specs.Faults.{test}
 use Rattle.diagram.specs.Settles.{Settled}
 use Rattle.diagram.specs.Views.{view, room}
+use Rattle.diagram.proofs.Nodes.{fits}
 use Rattle.records.proofs.Counting.{one_more, part_in_one}
 use Rattle.records.proofs.Values.{constant_lawful, value_constant, value_grows}
 use Rattle.records.proofs.Moves.{pattern_moved}
@@ -199,7 +200,7 @@ no_operator o n e =
 -- ---- the places
 
 pub table_fits : (t : Table) → (view t).used ≤ room t
-table_fits t = let rs = t.places.records in let ns = t.places.next in let e = t.places.within in omega arith
+table_fits t = fits t.places
 
 -- ---- a result that `?` passes on
 

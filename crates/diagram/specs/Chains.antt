@@ -1,8 +1,22 @@
 -- The index of a list of records: a chain of places for each hash of a key. Assumes nothing.
-use Rattle.std.specs.Prelude.{◌≡◌, ℕ, ◌-◌, ◌<◌, ◌≤◌, List, length, slice_index}
+use Rattle.std.specs.Prelude.{◌≡◌, ℕ, ◌+◌, ◌-◌, ◌<◌, ◌≤◌, List, Some, None, Option, length, map, slice_index}
 use Rattle.records.specs.declared.record.Record.{Record}
+use Rattle.diagram.specs.declared.places.Node.{Node}
 use Rattle.memo.specs.Buckets.{bucket_of}
 use Rattle.records.specs.Keys.{record_at, Keyed}
+
+-- the records of the places
+abbrev pub records_of : List Node → List Record
+records_of ns = map (λ n. n.record) ns
+
+-- a link as a number: a place and one more, or 0 for none
+abbrev pub rank : Option ℕ → ℕ
+rank None = 0
+rank (Some p) = p + 1
+
+-- the links from each place to the next one of its chain
+abbrev pub links_of : List Node → List ℕ
+links_of ns = map (λ n. rank n.next) ns
 
 -- no two places have the same key
 abbrev pub Apart : List Record → Type 0
@@ -17,7 +31,7 @@ chain mask r = bucket_of mask r.input r.low r.high
 abbrev pub chain_at : ℕ → List Record → ℕ → ℕ
 chain_at mask rs q = chain mask (record_at rs q)
 
--- A link is a place and one more, or 0 for none. Each chain begins at a place in use ..
+-- Each chain begins at a place in use ..
 abbrev pub HeadsLow : List Record → List ℕ → Type 0
 HeadsLow rs heads = (b : ℕ) → slice_index heads b ≤ length rs
 

@@ -1,0 +1,78 @@
+-- The chains of a table's nodes. Assumes nothing.
+use Rattle.std.proofs.Common.{◌≡◌, ℕ, zero, suc, ◌+◌, ◌-◌, ◌<◌, ◌≤◌, List, [], ◌∷◌, ◌++◌, Some, None, Option, length, map, get_or, take, set, replicate, vec_items, vec_len, sym, refl, ap, ◌∙◌, subst, arith}
+use Rattle.std.proofs.lemmas.List.{get_or-map, length-map, map-append, map-set, take-map}
+use Rattle.records.specs.declared.record.Record.{Record}
+use Rattle.diagram.specs.declared.places.Node.{Node}
+use Rattle.diagram.specs.declared.places.Places.{Places}
+use Rattle.memo.specs.Buckets.{bucket_of}
+use Rattle.records.specs.Keys.{blank, record_at, Keyed, Absent}
+use Rattle.diagram.specs.Chains.{records_of, links_of, rank, chain}
+use Rattle.diagram.specs.Uses.{in_use, room_for}
+use Rattle.diagram.proofs.Links.{Chained, Sought, empty, popped, pushed, started, passed}
+
+abbrev pub Tied : ℕ → List Node → List (Option ℕ) → Type 0
+Tied mask ns hs = Chained mask (records_of ns) (map rank hs) (links_of ns)
+
+pub held : (t : Places) → Tied (vec_len t.heads - 1) (vec_items t.nodes) (vec_items t.heads)
+held t =
+    record {
+      heads_low = t.headed.0;
+      heads_own = t.headed.1;
+      heads_all = t.headed.2;
+      nexts_low = t.linked.0;
+      nexts_own = t.linked.1;
+      nexts_all = t.linked.2;
+      apart = t.apart;
+    }
+
+pub fits : (t : Places) → length (in_use t) ≤ room_for t
+fits t = let ns = vec_items t.nodes in omega (arith, length-map ns (λ (n : Node). n.record), t.within)
+
+-- what a place that is read has
+pub record_read : (ns : List Node) (p : ℕ) (n : Node) → n ≡ get_or ns p n → p < length ns → n.record ≡ record_at (records_of ns) p
+record_read ns p n e h = ap (λ n. n.record) e ∙ sym (get_or-map (λ n. n.record) ns p n blank h)
+
+link_read : (ns : List Node) (p : ℕ) (n : Node) → n ≡ get_or ns p n → p < length ns → rank n.next ≡ get_or (links_of ns) p 0
+link_read ns p n e h = ap (λ n. rank n.next) e ∙ sym (get_or-map (λ n. rank n.next) ns p n 0 h)
+
+head_read : (hs : List (Option ℕ)) (b : ℕ) (l : Option ℕ) → l ≡ get_or hs b l → b < length hs → rank l ≡ get_or (map rank hs) b 0
+head_read hs b l e h = ap rank e ∙ sym (get_or-map rank hs b l 0 h)
+
+ranks_none : (n : ℕ) → map rank (replicate n None) ≡ replicate n 0
+ranks_none zero = refl
+ranks_none (suc n) = ap (λ l. 0 ∷ l) (ranks_none n)
+
+-- no places in use, and no chain begun
+pub tied_none : (mask n : ℕ) (ns : List Node) (hs : List (Option ℕ)) → ns ≡ [] → hs ≡ replicate n None → Tied mask ns hs
+tied_none mask n ns hs e f = empty mask n _ _ _ (ap records_of e) (ap (map rank) f ∙ ranks_none n)
+
+module _ (mask : ℕ) (ns : List Node) (hs : List (Option ℕ)) (old : Tied mask ns hs) (some : length hs ≡ mask + 1) where
+  ranks : length (map rank hs) ≡ mask + 1
+  ranks = length-map hs rank ∙ some
+
+  -- without the last place
+  pub tied_fewer : (m b : ℕ) (n : Node) (fewer : List Node) → m ≡ length ns → 0 < length (records_of ns) → n ≡ get_or ns (m - 1) n → b ≡ chain mask n.record → fewer ≡ take (m - 1) ns → Tied mask fewer (set hs b n.next)
+  tied_fewer m b n fewer len more e own f =
+      let long : length (records_of ns) ≡ length ns = length-map ns _ in
+      let h : m - 1 < length ns = omega arith in
+      rw (f, ← take-map, ← take-map, map-set)
+      (popped mask (records_of ns) (map rank hs) (links_of ns) old ranks (m - 1) b (rank n.next) (omega arith) (own ∙ ap (chain mask) (record_read ns (m - 1) n e h)) (link_read ns (m - 1) n e h))
+
+  -- with one more
+  pub tied_more : (p b : ℕ) (n : Node) (more : List Node) → p ≡ length ns → Absent (records_of ns) n.record.input n.record.low n.record.high → b ≡ chain mask n.record → b < length hs → n.next ≡ get_or hs b n.next → more ≡ ns ++ n ∷ [] → Tied mask more (set hs b (Some p))
+  tied_more p b n more len absent own l e f =
+      let even : length (links_of ns) ≡ length (records_of ns) = length-map ns _ ∙ sym (length-map ns _) in
+      let k = pushed mask (records_of ns) (map rank hs) (links_of ns) old ranks n.record b (rank n.next) even absent own (head_read hs b n.next e l) in
+      rw (f, map-append, map-append, map-set) (subst (λ z. Chained mask (records_of ns ++ n.record ∷ []) (set (map rank hs) b (z + 1)) (links_of ns ++ rank n.next ∷ [])) (length-map ns _ ∙ sym len) k)
+
+  module _ (input low high : ℕ) where
+    pub start_sought : (b : ℕ) (l : Option ℕ) → b ≡ bucket_of mask input low high → b < length hs → l ≡ get_or hs b l → Sought mask (records_of ns) input low high (rank l)
+    start_sought b l own h e = started mask (records_of ns) (map rank hs) (links_of ns) old ranks input low high b (rank l) own (head_read hs b l e h)
+
+    pub pass_sought : (p : ℕ) (n : Node) → Sought mask (records_of ns) input low high (p + 1) → n ≡ get_or ns p n → (Keyed n.record input low high → ⊥) → Sought mask (records_of ns) input low high (rank n.next)
+    pass_sought p n s e not =
+        let h : p < length ns = omega (arith, s.0, length-map ns (λ (n : Node). n.record)) in
+        let back : p + 1 - 1 ≡ p = omega arith in
+        passed mask (records_of ns) (map rank hs) (links_of ns) old ranks input low high (p + 1) (rank n.next) s (omega arith)
+        (link_read ns p n e h ∙ ap (λ q. get_or (links_of ns) q 0) (sym back))
+        (λ k. not (subst (λ s. Keyed s input low high) (ap (record_at (records_of ns)) back ∙ sym (record_read ns p n e h)) k))
