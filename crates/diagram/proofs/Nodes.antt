@@ -2,6 +2,7 @@
 use Rattle.std.proofs.Common.{◌≡◌, ℕ, zero, suc, ◌+◌, ◌-◌, ◌<◌, ◌≤◌, List, [], ◌∷◌, ◌++◌, Some, None, Option, length, map, get_or, take, set, replicate, vec_items, vec_len, sym, refl, ap, ◌∙◌, subst, arith}
 use Rattle.std.proofs.lemmas.List.{get_or-map, length-map, map-append, map-set, take-map}
 use Rattle.records.specs.declared.record.Record.{Record}
+use Rattle.diagram.specs.declared.places.link.Link.{Link}
 use Rattle.diagram.specs.declared.places.Node.{Node}
 use Rattle.diagram.specs.declared.places.Places.{Places}
 use Rattle.memo.specs.Buckets.{bucket_of}
@@ -10,7 +11,7 @@ use Rattle.diagram.specs.Chains.{records_of, links_of, rank, chain}
 use Rattle.diagram.specs.Uses.{in_use, room_for}
 use Rattle.diagram.proofs.Links.{Chained, Sought, empty, popped, pushed, started, passed}
 
-abbrev pub Tied : ℕ → List Node → List (Option ℕ) → Type 0
+abbrev pub Tied : ℕ → List Node → List Link → Type 0
 Tied mask ns hs = Chained mask (records_of ns) (map rank hs) (links_of ns)
 
 pub held : (t : Places) → Tied (vec_len t.heads - 1) (vec_items t.nodes) (vec_items t.heads)
@@ -35,18 +36,18 @@ record_read ns p n e h = ap (λ n. n.record) e ∙ sym (get_or-map (λ n. n.reco
 link_read : (ns : List Node) (p : ℕ) (n : Node) → n ≡ get_or ns p n → p < length ns → rank n.next ≡ get_or (links_of ns) p 0
 link_read ns p n e h = ap (λ n. rank n.next) e ∙ sym (get_or-map (λ n. rank n.next) ns p n 0 h)
 
-head_read : (hs : List (Option ℕ)) (b : ℕ) (l : Option ℕ) → l ≡ get_or hs b l → b < length hs → rank l ≡ get_or (map rank hs) b 0
+head_read : (hs : List Link) (b : ℕ) (l : Link) → l ≡ get_or hs b l → b < length hs → rank l ≡ get_or (map rank hs) b 0
 head_read hs b l e h = ap rank e ∙ sym (get_or-map rank hs b l 0 h)
 
-ranks_none : (n : ℕ) → map rank (replicate n None) ≡ replicate n 0
-ranks_none zero = refl
-ranks_none (suc n) = ap (λ l. 0 ∷ l) (ranks_none n)
+none_of : (n : ℕ) (l : Link) → rank l ≡ 0 → map rank (replicate n l) ≡ replicate n 0
+none_of zero l e = refl
+none_of (suc n) l e = cc (none_of n l e)
 
 -- no places in use, and no chain begun
-pub tied_none : (mask n : ℕ) (ns : List Node) (hs : List (Option ℕ)) → ns ≡ [] → hs ≡ replicate n None → Tied mask ns hs
-tied_none mask n ns hs e f = empty mask n _ _ _ (ap records_of e) (ap (map rank) f ∙ ranks_none n)
+pub tied_none : (mask n : ℕ) (ns : List Node) (hs : List Link) (l : Link) → rank l ≡ 0 → ns ≡ [] → hs ≡ replicate n l → Tied mask ns hs
+tied_none mask n ns hs l none e f = empty mask n _ _ _ (ap records_of e) (ap (map rank) f ∙ none_of n l none)
 
-module _ (mask : ℕ) (ns : List Node) (hs : List (Option ℕ)) (old : Tied mask ns hs) (some : length hs ≡ mask + 1) where
+module _ (mask : ℕ) (ns : List Node) (hs : List Link) (old : Tied mask ns hs) (some : length hs ≡ mask + 1) where
   ranks : length (map rank hs) ≡ mask + 1
   ranks = length-map hs rank ∙ some
 
@@ -59,14 +60,20 @@ module _ (mask : ℕ) (ns : List Node) (hs : List (Option ℕ)) (old : Tied mask
       (popped mask (records_of ns) (map rank hs) (links_of ns) old ranks (m - 1) b (rank n.next) (omega arith) (own ∙ ap (chain mask) (record_read ns (m - 1) n e h)) (link_read ns (m - 1) n e h))
 
   -- with one more
-  pub tied_more : (p b : ℕ) (n : Node) (more : List Node) → p ≡ length ns → Absent (records_of ns) n.record.input n.record.low n.record.high → b ≡ chain mask n.record → b < length hs → n.next ≡ get_or hs b n.next → more ≡ ns ++ n ∷ [] → Tied mask more (set hs b (Some p))
-  tied_more p b n more len absent own l e f =
+  pub tied_more : (p b : ℕ) (n : Node) (l : Link) (more : List Node) → p ≡ length ns → rank l ≡ p + 1 → Absent (records_of ns) n.record.input n.record.low n.record.high → b ≡ chain mask n.record → b < length hs → n.next ≡ get_or hs b n.next → more ≡ ns ++ n ∷ [] → Tied mask more (set hs b l)
+  tied_more p b n l more len to absent own h e f =
       let even : length (links_of ns) ≡ length (records_of ns) = length-map ns _ ∙ sym (length-map ns _) in
-      let k = pushed mask (records_of ns) (map rank hs) (links_of ns) old ranks n.record b (rank n.next) even absent own (head_read hs b n.next e l) in
-      rw (f, map-append, map-append, map-set) (subst (λ z. Chained mask (records_of ns ++ n.record ∷ []) (set (map rank hs) b (z + 1)) (links_of ns ++ rank n.next ∷ [])) (length-map ns _ ∙ sym len) k)
+      let k = pushed mask (records_of ns) (map rank hs) (links_of ns) old ranks n.record b (rank n.next) even absent own (head_read hs b n.next e h) in
+      rw (f, map-append, map-append, map-set) (subst (λ z. Chained mask (records_of ns ++ n.record ∷ []) (set (map rank hs) b z) (links_of ns ++ rank n.next ∷ [])) (ap (λ m. m + 1) (length-map ns _ ∙ sym len) ∙ sym to) k)
+
+  -- chains go down
+  pub lower : (p : ℕ) (n : Node) → p < length (records_of ns) → n ≡ get_or ns p n → rank n.next ≤ p
+  lower p n l e =
+      let h : p < length ns = omega (arith, length-map ns (λ (n : Node). n.record)) in
+      omega (arith, old.nexts_low p l, link_read ns p n e h)
 
   module _ (input low high : ℕ) where
-    pub start_sought : (b : ℕ) (l : Option ℕ) → b ≡ bucket_of mask input low high → b < length hs → l ≡ get_or hs b l → Sought mask (records_of ns) input low high (rank l)
+    pub start_sought : (b : ℕ) (l : Link) → b ≡ bucket_of mask input low high → b < length hs → l ≡ get_or hs b l → Sought mask (records_of ns) input low high (rank l)
     start_sought b l own h e = started mask (records_of ns) (map rank hs) (links_of ns) old ranks input low high b (rank l) own (head_read hs b l e h)
 
     pub pass_sought : (p : ℕ) (n : Node) → Sought mask (records_of ns) input low high (p + 1) → n ≡ get_or ns p n → (Keyed n.record input low high → ⊥) → Sought mask (records_of ns) input low high (rank n.next)

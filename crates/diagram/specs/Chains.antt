@@ -1,6 +1,7 @@
 -- The index of a list of records: a chain of places for each hash of a key. Assumes nothing.
-use Rattle.std.specs.Prelude.{◌≡◌, ℕ, ◌+◌, ◌-◌, ◌<◌, ◌≤◌, List, Some, None, Option, length, map, slice_index}
+use Rattle.std.specs.Prelude.{◌≡◌, ℕ, ◌-◌, ◌<◌, ◌≤◌, List, length, map, slice_index}
 use Rattle.records.specs.declared.record.Record.{Record}
+use Rattle.diagram.specs.declared.places.link.Link.{Link}
 use Rattle.diagram.specs.declared.places.Node.{Node}
 use Rattle.memo.specs.Buckets.{bucket_of}
 use Rattle.records.specs.Keys.{record_at, Keyed}
@@ -10,9 +11,8 @@ abbrev pub records_of : List Node → List Record
 records_of ns = map (λ n. n.record) ns
 
 -- a link as a number: a place and one more, or 0 for none
-abbrev pub rank : Option ℕ → ℕ
-rank None = 0
-rank (Some p) = p + 1
+abbrev pub rank : Link → ℕ
+rank l = l.number
 
 -- the links from each place to the next one of its chain
 abbrev pub links_of : List Node → List ℕ

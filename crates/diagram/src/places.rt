@@ -1,16 +1,18 @@
 ghost use Rattle.std.specs.Prelude.{◌<◌, ◌-◌, ◌≤◌, map, vec_len, vec_capacity};
 ghost use Rattle.diagram.specs.Chains.{records_of, links_of, rank, Headed, Linked, Apart};
 
+use link::Link;
 use records::Record;
 
 mod changes;
+mod link;
 mod reads;
 
 // A place in use: its record, and the next place of its chain.
 #[derive(Clone, Copy)]
 struct Node {
     record: Record,
-    next: Option<u32>,
+    next: Link,
 }
 
 // The records in use, each key at most once, with an index by key (a unique table): a chain of places for each hash, from
@@ -18,7 +20,7 @@ struct Node {
 #[derive(Drop)]
 pub(crate) struct Places {
     nodes: Vec<Node>,
-    heads: Vec<Option<u32>>,
+    heads: Vec<Link>,
     room: usize,
     ghost small: { room ≤ 1048576 },
     ghost reserved: { room ≤ vec_capacity nodes },

@@ -2,6 +2,7 @@ ghost use Rattle.std.specs.Prelude.{◌≡◌, ◌-◌, ◌<◌, ◌≤◌, min,
 ghost use Rattle.records.specs.Keys.{Absent, Added};
 ghost use Rattle.diagram.specs.Uses.{in_use, room_for};
 
+use super::link::Link;
 use super::{Node, Places};
 use records::Record;
 use std::alloc::{AllocError, Global};
@@ -16,7 +17,7 @@ impl Places {
     {
         let room = capacity.min(MOST);
         let nodes = Vec::with_capacity(heap, room)?;
-        let heads = vec![in heap; None; room.next_power_of_two()]?;
+        let heads = vec![in heap; Link::default(); room.next_power_of_two()]?;
         Ok(Places { nodes, heads, room })
     }
 
@@ -35,7 +36,7 @@ impl Places {
             record: r,
             next: self.heads[b],
         };
-        self.heads[b] = Some(p as u32);
+        self.heads[b] = Link::to(p);
         self.nodes.push_reserved(node);
         Some(p)
     }

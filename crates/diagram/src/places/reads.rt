@@ -42,8 +42,7 @@ impl Places {
             (λ p. Present (in_use self.now) r.input r.low r.high p) }
     {
         let mut link = self.heads[self.chain_of(r)];
-        while let Some(place) = link {
-            let p = place as usize;
+        while let Some(p) = link.place() {
             let node = self.nodes[p];
             let s = node.record;
             if s.input == r.input && s.low == r.low && s.high == r.high {

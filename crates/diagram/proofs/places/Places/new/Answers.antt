@@ -9,5 +9,5 @@ invariant_of-result c =
     let power = c.next_power_of_two.ensures.power in
     let made = c.in_ok-nodes.ensures in
     let heads = c.in_ok-heads.ensures in
-    let k = tied_none _ _ _ _ made.items (heads.items_if_clones_equal (λ y e. grind arith)) in
+    let k = tied_none _ _ _ _ _ c.default.ensures made.items (heads.items_if_clones_equal (λ y e. e)) in
     record { small = omega arith; reserved = omega arith; within = omega arith; some = omega (arith, power.1, pow_pos power.0, heads.len); headed = headed k; linked = linked k; apart = k.apart }

@@ -9,6 +9,6 @@ invariant_of-self c =
     let k =
     tied_more (vec_len t.heads - 1) (vec_items t.nodes) (vec_items t.heads) (held t) (omega arith) c.len-p.result c.chain_of-b.result
     record { «record» = c.args.r; next = c.index.result.now }
-    _ (omega arith) c.requires c.chain_of-b.ensures.chain (omega arith) c.index.ensures c.push_reserved.ensures.items
+    _ _ (omega arith) c.to.ensures c.requires c.chain_of-b.ensures.chain (omega arith) c.index.ensures c.push_reserved.ensures.items
     in
     record { small = t.small; reserved = omega arith; within = omega arith; some = t.some; headed = headed k; linked = linked k; apart = k.apart }

@@ -4,8 +4,8 @@ use Rattle.diagram.specs.Uses.{in_use}
 use Rattle.diagram.proofs.Links.{Sought}
 use Rattle.diagram.proofs.places.Places.seek.Given as goal
 
-abbrev pub invariant-loop-link : goal.invariant-loop-link
-invariant-loop-link l = Sought (vec_len l.self.heads - 1) (in_use l.self) l.r.input l.r.low l.r.high (rank l.link)
+abbrev pub invariant-loop-p : goal.invariant-loop-p
+invariant-loop-p l = Sought (vec_len l.self.heads - 1) (in_use l.self) l.r.input l.r.low l.r.high (rank l.link)
 
-abbrev pub decreases-loop-link : goal.decreases-loop-link
-decreases-loop-link l = rank l.link
+abbrev pub decreases-loop-p : goal.decreases-loop-p
+decreases-loop-p l = rank l.link
