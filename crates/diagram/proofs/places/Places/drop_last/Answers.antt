@@ -1,13 +1,13 @@
-use Rattle.std.proofs.Common.{◌-◌, vec_items, vec_len, arith}
+use Rattle.std.proofs.Common.{arith}
 use Rattle.diagram.proofs.Links.{headed, linked}
-use Rattle.diagram.proofs.Nodes.{held, tied_fewer}
+use Rattle.diagram.proofs.Nodes.{tied_fewer}
 use Rattle.diagram.proofs.places.Places.drop_last.Goals as goal
 
 pub invariant_of-self : goal.invariant_of-self
 invariant_of-self c =
     let t = c.args.self.now in
     let k =
-    tied_fewer (vec_len t.heads - 1) (vec_items t.nodes) (vec_items t.heads) (held t) (omega arith) c.len-p.result c.chain_of-b.result c.index-node.result.now
-    _ (omega arith) c.requires c.index-node.ensures c.chain_of-b.ensures.chain c.truncate.ensures.items
+    tied_fewer t c.len-p.result c.chain_of-b.result c.index-node.result.now _
+    c.len-p.ensures c.requires c.index-node.ensures c.chain_of-b.ensures.chain c.truncate.ensures.items
     in
     record { small = t.small; reserved = omega arith; within = omega arith; some = t.some; headed = headed k; linked = linked k; apart = k.apart }
