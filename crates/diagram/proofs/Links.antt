@@ -1,27 +1,36 @@
 -- What one more record, and one fewer, leave of the chains. Assumes nothing.
 use Rattle.std.proofs.Common.{◌≡◌, ℕ, ◌+◌, ◌-◌, ◌<◌, ◌≤◌, ◌≢◌, List, [], ◌∷◌, ◌++◌, length, get_or, take, set, replicate, sym, refl, ap, ◌∙◌, subst, ⊎_elim, arith}
+use mathlib.Core.Logic.{∥∥₁_elim}
+use native.Mathlib.Bridge.{le_prop}
+use std.HLevel.{Π_prop, ⊥_prop}
+use base.Stored.{Coded-set, coded_ℕ}
 use Rattle.records.specs.declared.record.Record.{Record}
 use Rattle.memo.specs.Buckets.{bucket_of}
 use Rattle.records.specs.Keys.{blank, record_at, Keyed, Absent}
-use Rattle.diagram.specs.Chains.{chain, chain_at, Apart, HeadsLow, HeadsOwn, HeadsAll, NextsLow, NextsOwn, NextsAll, Headed, Linked}
+use Rattle.diagram.specs.Chains.{chain, chain_at, Chained}
 use Rattle.std.proofs.lemmas.List.{get_or-set_same, get_or-set_other, get_or-take, get_or_append_left, get_or_push, length-take-le, length_push, get_or-replicate, get_or_past, length-replicate}
 use Rattle.std.proofs.lemmas.Bool.{cases_eq, cases_lt}
 use Rattle.std.proofs.lemmas.Nat.{and_le_r}
 
-pub record Chained (mask : ℕ) (rs : List Record) (heads next : List ℕ) : Type 0 where
-  pub heads_low : HeadsLow rs heads
-  pub heads_own : HeadsOwn mask rs heads
-  pub heads_all : HeadsAll mask rs heads
-  pub nexts_low : NextsLow rs next
-  pub nexts_own : NextsOwn mask rs next
-  pub nexts_all : NextsAll mask rs next
-  pub apart : Apart rs
+-- two records with the same key
+abbrev SameKey : Record → Record → Type 0
+SameKey r s = Keyed r s.input s.low s.high
 
-pub headed : {mask : ℕ} {rs : List Record} {heads next : List ℕ} → Chained mask rs heads next → Headed mask rs heads
-headed k = (k.heads_low, k.heads_own, k.heads_all)
+chained_prop : (mask : ℕ) (rs : List Record) (heads next : List ℕ) → IsProp (Chained mask rs heads next)
+chained_prop mask rs heads next a b =
+    λ i. record {
+      heads_low = Π_prop (λ b. le_prop) a.heads_low b.heads_low i;
+      heads_own = λ c h. Coded-set coded_ℕ _ _ (a.heads_own c h) (b.heads_own c h) i;
+      heads_all = Π_prop (λ q. Π_prop (λ _. le_prop)) a.heads_all b.heads_all i;
+      nexts_low = Π_prop (λ p. Π_prop (λ _. le_prop)) a.nexts_low b.nexts_low i;
+      nexts_own = λ p h. Coded-set coded_ℕ _ _ (a.nexts_own p h) (b.nexts_own p h) i;
+      nexts_all = Π_prop (λ p. Π_prop (λ q. Π_prop (λ _. le_prop))) a.nexts_all b.nexts_all i;
+      apart = Π_prop (λ p. Π_prop (λ q. Π_prop (λ _. ⊥_prop))) a.apart b.apart i;
+    }
 
-pub linked : {mask : ℕ} {rs : List Record} {heads next : List ℕ} → Chained mask rs heads next → Linked mask rs next
-linked k = (k.nexts_low, k.nexts_own, k.nexts_all)
+-- so it comes out of its truncation
+pub chained : {mask : ℕ} {rs : List Record} {heads next : List ℕ} → ∥ Chained mask rs heads next ∥₁ → Chained mask rs heads next
+chained {mask} {rs} {heads} {next} t = ∥∥₁_elim t (chained_prop mask rs heads next) (λ k. k)
 
 -- what holds of v, and of each other element, holds at each place of the list with v at i
 at_set : (P : ℕ → ℕ → Type 0) (l : List ℕ) (i j v : ℕ) → i < length l → P i v → (j ≢ i → P j (get_or l j 0)) → P j (get_or (set l i v) j 0)
@@ -49,10 +58,6 @@ at_push P l n j v len here there =
 pub within : (mask : ℕ) (r : Record) → chain mask r ≤ mask
 unfolding bucket_of
 within mask r = and_le_r _ _
-
--- two records with the same key
-abbrev SameKey : Record → Record → Type 0
-SameKey r s = Keyed r s.input s.low s.high
 
 -- a key decides the chain
 pub keyed_chain : (mask : ℕ) (r : Record) (input low high : ℕ) → Keyed r input low high → chain mask r ≡ bucket_of mask input low high

@@ -1,15 +1,14 @@
 -- The chains of a table's nodes. Assumes nothing.
 use Rattle.std.proofs.Common.{◌≡◌, ℕ, zero, suc, ◌+◌, ◌-◌, ◌<◌, ◌≤◌, List, [], ◌∷◌, ◌++◌, length, map, get_or, take, set, replicate, vec_items, vec_len, sym, refl, ap, ◌∙◌, subst, arith}
 use Rattle.std.proofs.lemmas.List.{get_or-map, length-map, map-append, map-set, take-map}
-use Rattle.records.specs.declared.record.Record.{Record}
 use Rattle.diagram.specs.declared.places.link.Link.{Link}
 use Rattle.diagram.specs.declared.places.Node.{Node}
 use Rattle.diagram.specs.declared.places.Places.{Places}
 use Rattle.memo.specs.Buckets.{bucket_of}
 use Rattle.records.specs.Keys.{blank, record_at, Keyed, Absent}
-use Rattle.diagram.specs.Chains.{records_of, links_of, rank, chain}
+use Rattle.diagram.specs.Chains.{records_of, links_of, rank, chain, Chained}
 use Rattle.diagram.specs.Uses.{in_use, room_for}
-use Rattle.diagram.proofs.Links.{Chained, Sought, empty, popped, pushed, started, passed}
+use Rattle.diagram.proofs.Links.{chained, Sought, empty, popped, pushed, started, passed}
 
 abbrev pub Tied : ℕ → List Node → List Link → Type 0
 Tied mask ns hs = Chained mask (records_of ns) (map rank hs) (links_of ns)
@@ -34,16 +33,7 @@ module _ (t : Places) where
   hs = vec_items t.heads
 
   held : Tied (mask_of t) ns hs
-  held =
-      record {
-        heads_low = t.headed.0;
-        heads_own = t.headed.1;
-        heads_all = t.headed.2;
-        nexts_low = t.linked.0;
-        nexts_own = t.linked.1;
-        nexts_all = t.linked.2;
-        apart = t.apart;
-      }
+  held = chained t.chained
 
   long : length (in_use t) ≡ length ns
   long = length-map ns _

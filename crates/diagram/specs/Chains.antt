@@ -55,8 +55,12 @@ NextsOwn mask rs next = (p : ℕ) → (p < length rs) × (0 < slice_index next p
 abbrev pub NextsAll : ℕ → List Record → List ℕ → Type 0
 NextsAll mask rs next = (p q : ℕ) → (q < p) × (p < length rs) × (chain_at mask rs q ≡ chain_at mask rs p) → q < slice_index next p
 
-abbrev pub Headed : ℕ → List Record → List ℕ → Type 0
-Headed mask rs heads = HeadsLow rs heads × HeadsOwn mask rs heads × HeadsAll mask rs heads
-
-abbrev pub Linked : ℕ → List Record → List ℕ → Type 0
-Linked mask rs next = NextsLow rs next × NextsOwn mask rs next × NextsAll mask rs next
+-- So the chains lead to each place by its key, and no key stands twice.
+pub record Chained (mask : ℕ) (rs : List Record) (heads next : List ℕ) : Type 0 where
+  pub heads_low : HeadsLow rs heads
+  pub heads_own : HeadsOwn mask rs heads
+  pub heads_all : HeadsAll mask rs heads
+  pub nexts_low : NextsLow rs next
+  pub nexts_own : NextsOwn mask rs next
+  pub nexts_all : NextsAll mask rs next
+  pub apart : Apart rs

@@ -1,5 +1,5 @@
 ghost use Rattle.std.specs.Prelude.{◌<◌, ◌-◌, ◌≤◌, map, vec_len, vec_capacity};
-ghost use Rattle.diagram.specs.Chains.{records_of, links_of, rank, Headed, Linked, Apart};
+ghost use Rattle.diagram.specs.Chains.{records_of, links_of, rank, Chained};
 
 use link::Link;
 use records::Record;
@@ -26,7 +26,5 @@ pub(crate) struct Places {
     ghost reserved: { room ≤ vec_capacity nodes },
     ghost within: { vec_len nodes ≤ room },
     ghost some: { 0 < vec_len heads },
-    ghost headed: { Headed (vec_len heads - 1) (records_of nodes.items) (map rank heads.items) },
-    ghost linked: { Linked (vec_len heads - 1) (records_of nodes.items) (links_of nodes.items) },
-    ghost apart: { Apart (records_of nodes.items) },
+    ghost chained: { ∥ Chained (vec_len heads - 1) (records_of nodes.items) (map rank heads.items) (links_of nodes.items) ∥₁ },
 }

@@ -1,5 +1,4 @@
-use Rattle.std.proofs.Common.{◌≡◌, true, Ok, sym, ap, ◌∙◌}
-use Rattle.records.specs.Rules.{lawful}
+use Rattle.std.proofs.Common.{Ok, ap}
 use Rattle.diagram.specs.Views.{view}
 use Rattle.records.proofs.Shapes.{well}
 use Rattle.records.proofs.Lookups.{reach_decides}
