@@ -1,24 +1,30 @@
 -- What a walk that ran out of places says of the number of parts, and what cutting back leaves. Assumes nothing.
-use Rattle.std.proofs.Common.{◌≡◌, ℕ, zero, suc, ◌<◌, ◌≤◌, Bool, true, false, cond, eqb, List, [], ◌∷◌, Some, Option, sym, refl, ap, ◌∙◌, subst, inl, ⊎_elim, suc-le-suc, arith}
-use Rattle.std.proofs.lemmas.Bool.{cases_lt, cond_both, eqb-true, eqb-false, ne_eqb, both_ways}
+use Rattle.std.proofs.Common.{◌≡◌, ℕ, zero, suc, ◌<◌, ◌≤◌, Bool, true, false, cond, eqb, List, [], ◌∷◌, is_err, Some, None, Option, Ok, Err, Result, sym, refl, ap, ◌∙◌, subst, inl, inr, ⊎_elim, suc-le-suc, arith}
+use Rattle.std.proofs.lemmas.Bool.{cases_lt, cases_Bool, cond_both, cond-true, cond-false, eqb-true, eqb-false, ne_eqb, both_ways, false≢true}
 use Rattle.algebra.specs.Ops.{Ops, known}
 use Rattle.algebra.specs.Laws.{Laws}
+use Rattle.algebra.specs.Operators.{op_number, op_of, own_op}
+use Rattle.algebra.specs.declared.operator.Op.{Op}
+use Rattle.algebra.specs.declared.operator.Op.TheVariants.{And, Or, IfAnd, IfOr, Wire, Grade}
 use Rattle.netlist.specs.Signals.{Signal, Agree, bit, input, constant, joined}
 use Rattle.netlist.specs.Parts.{part_count}
+use Rattle.records.specs.declared.fault.Full.{Full}
 use Rattle.records.specs.declared.fault.TableFault.{TableFault}
 use Rattle.diagram.specs.declared.table.Table.{Table}
 use Rattle.records.specs.Stores.{Store, handle, value}
 use Rattle.records.specs.Rules.{Well, Sound, Lawful}
-use Rattle.records.specs.Changes.{Grows}
+use Rattle.records.specs.Changes.{Within, Grows}
 use Rattle.records.specs.Steps.{Back}
 use Rattle.records.specs.Marks.{choice}
 use Rattle.records.specs.Makings.{Chosen, Crowded}
 use Rattle.memo.specs.Memos.{Pairs}
 use Rattle.records.specs.Counts.{PartIn, DifferentParts}
-use Rattle.records.specs.Outcomes.{TruePairs, ResultOf, Overfull}
-use Rattle.records.specs.Walks.{combined, RanOut}
+use Rattle.records.specs.Outcomes.{TruePairs, ResultOf, Overfull, ToldFull, Shape, Means, Meaning}
+use Rattle.records.specs.Walks.{combine, combined, RanOut}
 use Rattle.records.specs.Faults.{test}
+use Rattle.diagram.specs.Settles.{Settled}
 use Rattle.diagram.specs.Views.{view, room}
+use Rattle.diagram.proofs.Nodes.{fits}
 use Rattle.records.proofs.Counting.{one_more, part_in_one}
 use Rattle.records.proofs.Values.{constant_lawful, value_constant, value_grows}
 use Rattle.records.proofs.Moves.{pattern_moved}
@@ -50,6 +56,29 @@ overfull {o} laws {s} {t} w v grows room result r ss from =
 
 pub back_again : {s t u : Store} → Grows s t → Back t s.used u → Back s s.used u
 back_again grows back = record { inputs = back.inputs ∙ grows.inputs; used = back.used; same = λ p l. back.same p l ∙ grows.same p l }
+
+-- ---- a table that is settled
+
+pub settled_shape : (s t u : Store) (P Q R : Pairs) (n : ℕ) (r : Result ℕ Full) (result : Result ℕ TableFault) → n ≡ s.used → Grows s t → ((h : ℕ) → r ≡ Ok h → Within t h) → Settled t n u Q R r result → Shape s u P R None result
+settled_shape s t u P Q R n (Ok h) result used grows within (e, same, forgot) =
+    subst (Shape s u P R None) (sym e) (record { passed = refl; grows = subst (Grows s) (sym same) grows; within = subst (λ z. Within z h) (sym same) (within h refl) })
+settled_shape s t u P Q R n (Err f) result used grows within (e, back, forgot) =
+    subst (Shape s u P R None) (sym e) (inr (record { passed = refl; full = refl; table = back_again grows (subst (λ k. Back t k u) used back); memo = forgot }))
+
+pub settled_means : {o : Ops} → Laws o → {s t : Store} → Well s → Well t → (room : ℕ) (u : Store) (Q R : Pairs) (f : Signal) (n : ℕ) (r : Result ℕ Full) (result : Result ℕ TableFault)
+    → Grows s t → ((h : ℕ) → r ≡ Ok h → ResultOf o s t Q f h) → ((e : Full) → r ≡ Err e → RanOut o room s t f) → Settled t n u Q R r result → Means o room s u R f result
+settled_means {o} laws {s} {t} w v room u Q R f n (Ok h) result grows made out (e, same, kept) =
+    subst (Means o room s u R f) (sym e) (subst (λ z. ResultOf o s z R f h) (sym same) (subst (λ z. ResultOf o s t z f h) (sym kept) (made h refl)))
+settled_means {o} laws {s} {t} w v room u Q R f n (Err full) result grows made out (e, back, forgot) =
+    subst (Means o room s u R f) (sym e) (overfull laws w v grows room f (out full refl))
+
+-- ---- a refused call changes nothing
+
+pub stopped : (s : Store) (P : Pairs) (refusal : Option TableFault) (f : TableFault) (result : Result ℕ TableFault) → result ≡ Err f → refusal ≡ Some f → Shape s s P P refusal result
+stopped s P refusal f result e why = subst (Shape s s P P refusal) (sym e) (inl (record { why = why; table = refl; memo = refl }))
+
+pub stopped_means : (o : Ops) (room : ℕ) (s : Store) (P : Pairs) (signal : Signal) (f : TableFault) (result : Result ℕ TableFault) → result ≡ Err f → ToldFull f (Overfull o room s signal) → Meaning o room s s P P signal result
+stopped_means o room s P signal f result e told sound pairs = subst (Means o room s s P signal) (sym e) told
 
 -- ---- an input
 
@@ -112,10 +141,72 @@ operator_joins o s k x y e =
     ap (λ b. λ p. cond b (o.turn (value o s x p)) (o.op k (value o s x p) (value o s y p)))
     (ne_eqb k 2 (λ two. both_ways (known o 2) refl (ap (known o) (sym two) ∙ e)))
 
+-- ---- the operator of a number
+
+numbered : (n m : ℕ) (a k : Op) (rest : Option Op) → op_number a ≡ m → (rest ≡ Some k → op_number k ≡ n) → cond (eqb n m) (Some a) rest ≡ Some k → op_number k ≡ n
+numbered n m a k rest e later is =
+    ⊎_elim
+    (λ t. let some : Some a ≡ Some k = sym (cond-true (eqb n m) (Some a) rest t) ∙ is in
+    let same : a ≡ k = cc in
+    sym (ap op_number same) ∙ e ∙ sym (eqb-true n m t))
+    (λ t. later (sym (cond-false (eqb n m) (Some a) rest t) ∙ is))
+    (cases_Bool (eqb n m))
+
+none_some : (k : Op) → ◌≡◌ {A = Option Op} None (Some k) → ⊥
+none_some k e = let z : ◌≡◌ {A = ℕ} 0 1 = cc in omega arith
+
+op_numbered : (n : ℕ) (k : Op) → op_of n ≡ Some k → op_number k ≡ n
+op_numbered n k =
+    numbered n 3 And k _ refl
+    (numbered n 4 Or k _ refl
+    (numbered n 5 IfAnd k _ refl
+    (numbered n 6 IfOr k _ refl
+    (numbered n 7 Wire k _ refl
+    (numbered n 9 Grade k _ refl (λ e. absurd (none_some k e)))))))
+
+pub own_operator : (o : Ops) (n : ℕ) (k : Op) → own_op o n ≡ Some k → (known o n ≡ true) × (op_number k ≡ n)
+own_operator o n k e =
+    ⊎_elim
+    (λ t. (t, op_numbered n k (sym (cond-true (known o n) (op_of n) None t) ∙ e)))
+    (λ t. let none : None ≡ Some k = sym (cond-false (known o n) (op_of n) None t) ∙ e in
+    let z : ◌≡◌ {A = ℕ} 0 1 = cc in absurd (omega arith))
+    (cases_Bool (known o n))
+
+missing : (n m : ℕ) (a : Op) (rest : Option Op) → cond (eqb n m) (Some a) rest ≡ None → (eqb n m ≡ false) × (rest ≡ None)
+missing n m a rest e =
+    ⊎_elim
+    (λ t. let some : Some a ≡ None = sym (cond-true (eqb n m) (Some a) rest t) ∙ e in absurd (none_some a (sym some)))
+    (λ t. (t, sym (cond-false (eqb n m) (Some a) rest t) ∙ e))
+    (cases_Bool (eqb n m))
+
+unnumbered : (o : Ops) (n : ℕ) → op_of n ≡ None → known o n ≡ false
+unnumbered o n e =
+    let a = missing n 3 And _ e in
+    let b = missing n 4 Or _ a.1 in
+    let c = missing n 5 IfAnd _ b.1 in
+    let d = missing n 6 IfOr _ c.1 in
+    let f = missing n 7 Wire _ d.1 in
+    let h = missing n 9 Grade _ f.1 in
+    let e3 = a.0 in let e4 = b.0 in let e5 = c.0 in let e6 = d.0 in let e7 = f.0 in let e9 = h.0 in
+    rw (e3, e4, e5, e6, e9, e7) refl
+
+pub no_operator : (o : Ops) (n : ℕ) → own_op o n ≡ None → known o n ≡ false
+no_operator o n e =
+    ⊎_elim
+    (λ t. unnumbered o n (sym (cond-true (known o n) (op_of n) None t) ∙ e))
+    (λ t. t)
+    (cases_Bool (known o n))
+
 -- ---- the places
 
 pub table_fits : (t : Table) → (view t).used ≤ room t
-table_fits t = let rs = t.places.records in let ns = t.places.next in let e = t.places.within in omega arith
+table_fits t = fits t.places
+
+-- ---- a result that `?` passes on
+
+pub refused : {T E : Type 0} (P : Result T E → Type 0) (r : Result T E) → is_err r ≡ true → ((f : E) → P (Err f)) → P r
+refused P (Ok h) e each = absurd (false≢true e)
+refused P (Err f) e each = each f
 
 -- ---- the tests of a call
 

@@ -1,5 +1,5 @@
 pub mod Links
-pub mod Held
+pub mod Nodes
 pub mod Passes
 pub mod Fulls
 pub mod Telling

@@ -1,27 +1,36 @@
 -- What one more record, and one fewer, leave of the chains. Assumes nothing.
 use Rattle.std.proofs.Common.{◌≡◌, ℕ, ◌+◌, ◌-◌, ◌<◌, ◌≤◌, ◌≢◌, List, [], ◌∷◌, ◌++◌, length, get_or, take, set, replicate, sym, refl, ap, ◌∙◌, subst, ⊎_elim, arith}
+use mathlib.Core.Logic.{∥∥₁_elim}
+use native.Mathlib.Bridge.{le_prop}
+use std.HLevel.{Π_prop, ⊥_prop}
+use base.Stored.{Coded-set, coded_ℕ}
 use Rattle.records.specs.declared.record.Record.{Record}
 use Rattle.memo.specs.Buckets.{bucket_of}
 use Rattle.records.specs.Keys.{blank, record_at, Keyed, Absent}
-use Rattle.diagram.specs.Chains.{chain, chain_at, Apart, HeadsLow, HeadsOwn, HeadsAll, NextsLow, NextsOwn, NextsAll, Headed, Linked}
+use Rattle.diagram.specs.Chains.{chain, chain_at, Chained}
 use Rattle.std.proofs.lemmas.List.{get_or-set_same, get_or-set_other, get_or-take, get_or_append_left, get_or_push, length-take-le, length_push, get_or-replicate, get_or_past, length-replicate}
 use Rattle.std.proofs.lemmas.Bool.{cases_eq, cases_lt}
 use Rattle.std.proofs.lemmas.Nat.{and_le_r}
 
-pub record Chained (mask : ℕ) (rs : List Record) (heads next : List ℕ) : Type 0 where
-  pub heads_low : HeadsLow rs heads
-  pub heads_own : HeadsOwn mask rs heads
-  pub heads_all : HeadsAll mask rs heads
-  pub nexts_low : NextsLow rs next
-  pub nexts_own : NextsOwn mask rs next
-  pub nexts_all : NextsAll mask rs next
-  pub apart : Apart rs
+-- two records with the same key
+abbrev SameKey : Record → Record → Type 0
+SameKey r s = Keyed r s.input s.low s.high
 
-pub headed : {mask : ℕ} {rs : List Record} {heads next : List ℕ} → Chained mask rs heads next → Headed mask rs heads
-headed k = (k.heads_low, k.heads_own, k.heads_all)
+chained_prop : (mask : ℕ) (rs : List Record) (heads next : List ℕ) → IsProp (Chained mask rs heads next)
+chained_prop mask rs heads next a b =
+    λ i. record {
+      heads_low = Π_prop (λ b. le_prop) a.heads_low b.heads_low i;
+      heads_own = λ c h. Coded-set coded_ℕ _ _ (a.heads_own c h) (b.heads_own c h) i;
+      heads_all = Π_prop (λ q. Π_prop (λ _. le_prop)) a.heads_all b.heads_all i;
+      nexts_low = Π_prop (λ p. Π_prop (λ _. le_prop)) a.nexts_low b.nexts_low i;
+      nexts_own = λ p h. Coded-set coded_ℕ _ _ (a.nexts_own p h) (b.nexts_own p h) i;
+      nexts_all = Π_prop (λ p. Π_prop (λ q. Π_prop (λ _. le_prop))) a.nexts_all b.nexts_all i;
+      apart = Π_prop (λ p. Π_prop (λ q. Π_prop (λ _. ⊥_prop))) a.apart b.apart i;
+    }
 
-pub linked : {mask : ℕ} {rs : List Record} {heads next : List ℕ} → Chained mask rs heads next → Linked mask rs next
-linked k = (k.nexts_low, k.nexts_own, k.nexts_all)
+-- so it comes out of its truncation
+pub chained : {mask : ℕ} {rs : List Record} {heads next : List ℕ} → ∥ Chained mask rs heads next ∥₁ → Chained mask rs heads next
+chained {mask} {rs} {heads} {next} t = ∥∥₁_elim t (chained_prop mask rs heads next) (λ k. k)
 
 -- what holds of v, and of each other element, holds at each place of the list with v at i
 at_set : (P : ℕ → ℕ → Type 0) (l : List ℕ) (i j v : ℕ) → i < length l → P i v → (j ≢ i → P j (get_or l j 0)) → P j (get_or (set l i v) j 0)
@@ -31,13 +40,24 @@ at_set P l i j v h here there =
     (λ ne. subst (P j) (sym (get_or-set_other l i j v 0 ne)) (there ne))
     (cases_eq j i)
 
+-- what holds of v at the end, and of each other element, holds at each place of the list with v added
+at_push : (P : ℕ → ℕ → Type 0) (l : List ℕ) (n j v : ℕ) → length l ≡ n → P n v → (j ≢ n → P j (get_or l j 0)) → P j (get_or (l ++ v ∷ []) j 0)
+at_push P l n j v len here there =
+    ⊎_elim
+    (λ e. subst (λ k. P k (get_or (l ++ v ∷ []) k 0)) (sym e) (subst (P n) (sym (get_or_push l v 0 n len)) here))
+    (λ ne. subst (P j) (sym (other ne)) (there ne))
+    (cases_eq j n)
+  where
+    other : j ≢ n → get_or (l ++ v ∷ []) j 0 ≡ get_or l j 0
+    other ne =
+        ⊎_elim
+        (λ h. get_or_append_left l (v ∷ []) 0 j (omega arith))
+        (λ h. get_or_past (l ++ v ∷ []) j 0 (omega (arith, length_push l v)) ∙ sym (get_or_past l j 0 (omega arith)))
+        (cases_lt j n)
+
 pub within : (mask : ℕ) (r : Record) → chain mask r ≤ mask
 unfolding bucket_of
 within mask r = and_le_r _ _
-
--- two records with the same key
-abbrev SameKey : Record → Record → Type 0
-SameKey r s = Keyed r s.input s.low s.high
 
 -- a key decides the chain
 pub keyed_chain : (mask : ℕ) (r : Record) (input low high : ℕ) → Keyed r input low high → chain mask r ≡ bucket_of mask input low high
@@ -69,7 +89,7 @@ empty mask n rs heads next e f =
 
 module _ (mask : ℕ) (rs : List Record) (heads next : List ℕ) (old : Chained mask rs heads next) (masked : length heads ≡ mask + 1) where
   -- without the last record
-  popped_at : (p : ℕ) → length rs ≡ p + 1 → Chained mask (take p rs) (set heads (chain_at mask rs p) (get_or next p 0)) next
+  popped_at : (p : ℕ) → length rs ≡ p + 1 → Chained mask (take p rs) (set heads (chain_at mask rs p) (get_or next p 0)) (take p next)
   popped_at p e =
       let len : length (take p rs) ≡ p = length-take-le p rs (omega arith) in
       let same : (q : ℕ) → q < p → chain_at mask (take p rs) q ≡ chain_at mask rs q = λ q h. ap (chain mask) (get_or-take p rs q blank h) in
@@ -77,6 +97,7 @@ module _ (mask : ℕ) (rs : List Record) (heads next : List ℕ) (old : Chained 
       let v = get_or next p 0 in
       let lt : b < length heads = omega (arith, within mask (record_at rs p)) in
       let low : v ≤ p = old.nexts_low p (omega arith) in
+      let on : (q : ℕ) → q < p → get_or (take p next) q 0 ≡ get_or next q 0 = λ q h. get_or-take p next q 0 h in
       let other : (c : ℕ) → c ≢ b → get_or heads c 0 ≤ p =
       λ c ne.
       ⊎_elim
@@ -100,21 +121,29 @@ module _ (mask : ℕ) (rs : List Record) (heads next : List ℕ) (old : Chained 
             (λ b-too. old.nexts_all p q (omega arith, omega arith, b-too))
             (λ ne mine. old.heads_all q (omega arith))
             refl);
-        nexts_low = λ q h. old.nexts_low q (omega arith);
-        nexts_own = λ q h. same (get_or next q 0 - 1) (omega (arith, old.nexts_low q (omega arith))) ∙ old.nexts_own q (omega arith, h.1) ∙ sym (same q (omega arith));
-        nexts_all = λ q s h. old.nexts_all q s (h.0, omega arith, sym (same s (omega arith)) ∙ h.2 ∙ same q (omega arith));
+        nexts_low = λ q h. omega (arith, on q (omega arith), old.nexts_low q (omega arith));
+        nexts_own =
+            λ q h.
+            let l : q < p = omega arith in
+            let some : 0 < get_or next q 0 = subst (λ w. 0 < w) (on q l) h.1 in
+            subst (λ w. chain_at mask (take p rs) (w - 1) ≡ chain_at mask (take p rs) q) (sym (on q l))
+            (same (get_or next q 0 - 1) (omega (arith, old.nexts_low q (omega arith))) ∙ old.nexts_own q (omega arith, some) ∙ sym (same q l));
+        nexts_all =
+            λ q s h.
+            subst (λ w. s < w) (sym (on q (omega arith)))
+            (old.nexts_all q s (h.0, omega arith, sym (same s (omega arith)) ∙ h.2 ∙ same q (omega arith)));
         apart =
             λ i j h.
             let alike = subst (λ r. SameKey r (record_at (take p rs) j)) (get_or-take p rs i blank (omega arith)) h.2 in
             old.apart i j (h.0, omega arith, subst (SameKey (record_at rs i)) (get_or-take p rs j blank (omega arith)) alike);
       }
 
-  pub popped : (p b v : ℕ) (fewer : List Record) → length rs ≡ p + 1 → fewer ≡ take p rs → b ≡ chain_at mask rs p → v ≡ get_or next p 0 → Chained mask fewer (set heads b v) next
-  popped p b v fewer e same-list same_bin same-link = rw (same-list, same_bin, same-link) (popped_at p e)
+  pub popped : (p b v : ℕ) → length rs ≡ p + 1 → b ≡ chain_at mask rs p → v ≡ get_or next p 0 → Chained mask (take p rs) (set heads b v) (take p next)
+  popped p b v e same_bin same-link = rw (same_bin, same-link) (popped_at p e)
 
   -- with one more
-  pushed_at : (r : Record) → length rs < length next → Absent rs r.input r.low r.high → Chained mask (rs ++ r ∷ []) (set heads (chain mask r) (length rs + 1)) (set next (length rs) (get_or heads (chain mask r) 0))
-  pushed_at r room absent =
+  pushed_at : (r : Record) → length next ≡ length rs → Absent rs r.input r.low r.high → Chained mask (rs ++ r ∷ []) (set heads (chain mask r) (length rs + 1)) (next ++ get_or heads (chain mask r) 0 ∷ [])
+  pushed_at r even absent =
       let n = length rs in
       let more = rs ++ r ∷ [] in
       let b = chain mask r in
@@ -139,15 +168,15 @@ module _ (mask : ℕ) (rs : List Record) (heads next : List ℕ) (old : Chained 
             (λ e. absurd (ne (ap (chain_at mask more) e ∙ new)))
             (λ not. subst (λ c. q < get_or heads c 0) (sym (same q (omega arith))) (old.heads_all q (omega arith)))
             (cases_eq q n));
-        nexts_low = λ p. at_set (λ p w. p < length more → w ≤ p) next n p v room (λ h. low) (λ ne h. old.nexts_low p (omega arith));
+        nexts_low = λ p. at_push (λ p w. p < length more → w ≤ p) next n p v even (λ h. low) (λ ne h. old.nexts_low p (omega arith));
         nexts_own =
             λ p.
-            at_set (λ p w. (p < length more) × (0 < w) → chain_at mask more (w - 1) ≡ chain_at mask more p) next n p v room
+            at_push (λ p w. (p < length more) × (0 < w) → chain_at mask more (w - 1) ≡ chain_at mask more p) next n p v even
             (λ h. same (v - 1) (omega arith) ∙ old.heads_own b h.1 ∙ sym new)
             (λ ne h. same (get_or next p 0 - 1) (omega (arith, old.nexts_low p (omega arith))) ∙ old.nexts_own p (omega arith, h.1) ∙ sym (same p (omega arith)));
         nexts_all =
             λ p q.
-            at_set (λ p w. (q < p) × (p < length more) × (chain_at mask more q ≡ chain_at mask more p) → q < w) next n p v room
+            at_push (λ p w. (q < p) × (p < length more) × (chain_at mask more q ≡ chain_at mask more p) → q < w) next n p v even
             (λ h. subst (λ c. q < get_or heads c 0) (sym (same q h.0) ∙ h.2 ∙ new) (old.heads_all q h.0))
             (λ ne h. old.nexts_all p q (h.0, omega arith, sym (same q (omega arith)) ∙ h.2 ∙ same p (omega arith)));
         apart =
@@ -159,8 +188,8 @@ module _ (mask : ℕ) (rs : List Record) (heads next : List ℕ) (old : Chained 
             (cases_eq j n);
       }
 
-  pub pushed : (r : Record) (n b v : ℕ) (more : List Record) → length rs < length next → Absent rs r.input r.low r.high → n ≡ length rs → more ≡ rs ++ r ∷ [] → b ≡ chain mask r → v ≡ get_or heads b 0 → Chained mask more (set heads b (n + 1)) (set next n v)
-  pushed r n b v more room absent same_len same-list same_bin same-link = rw (same-link, same_len, same-list, same_bin) (pushed_at r room absent)
+  pub pushed : (r : Record) (b v : ℕ) → length next ≡ length rs → Absent rs r.input r.low r.high → b ≡ chain mask r → v ≡ get_or heads b 0 → Chained mask (rs ++ r ∷ []) (set heads b (length rs + 1)) (next ++ v ∷ [])
+  pushed r b v even absent same_bin same-link = rw (same-link, same_bin) (pushed_at r even absent)
 
   module _ (input low high : ℕ) where
     pub started : (b v : ℕ) → b ≡ bucket_of mask input low high → v ≡ get_or heads b 0 → Sought mask rs input low high v

@@ -7,12 +7,12 @@ use Rattle.std.proofs.lemmas.Bool.{cases_lt, cases_Bool, cond-true, cond-false, 
 use Rattle.std.proofs.lemmas.Bool.Decides.{same_from_decides}
 use Rattle.algebra.specs.Ops.{Ops}
 use Rattle.netlist.specs.Parts.{all_below}
-use Rattle.diagram.specs.declared.codes.Codes.{Codes}
 use Rattle.records.specs.declared.record.Record.{Record}
 use Rattle.records.specs.Stores.{Store, place, marked, up}
 use Rattle.records.specs.Rules.{settled_code, firm_code, settled_mask, firm_mask, may_mark, lawful}
 use Rattle.records.specs.Marks.{negate, turn_below, turn_mask, reach_of, union, leads_plain, lead, turns, kept}
-use Rattle.diagram.specs.Codes.{mask_below, codes_of}
+use Rattle.records.specs.Supports.{mask_below}
+use Rattle.diagram.specs.Codes.{loose_codes, firm_codes}
 use Rattle.records.proofs.Bits.{same_bits}
 use Rattle.records.proofs.Masks.{all_at, all_from}
 use Rattle.records.proofs.Reaches.{up_none, up_one, up_only, up_union, up_union_right}
@@ -140,18 +140,14 @@ unfolding all_below
 all_like zero f g e = refl
 all_like (suc m) f g e = ap (λ z. z && all_below m f) (e m) ∙ ap (λ z. g m && z) (all_like m f g e)
 
-pub settled_test : (o : Ops) (k : Codes) (m : ℕ) → k ≡ codes_of o → eqb (bit_and m k.loose) 0 ≡ settled_mask o m
-settled_test o k m e =
-    ap (λ z. eqb (bit_and m z.loose) 0) e
+pub settled_test : (o : Ops) (m k : ℕ) → k ≡ loose_codes o → eqb (bit_and m k) 0 ≡ settled_mask o m
+settled_test o m k e =
+    ap (λ z. eqb (bit_and m z) 0) e
     ∙ meets_none (λ v. not (settled_code o v)) m
     ∙ all_like 16 (λ v. not (up m v) || not (not (settled_code o v))) (λ v. not (up m v) || settled_code o v) (λ v. ap (λ z. not (up m v) || z) (not_not (settled_code o v)))
 
-pub firm_test : (o : Ops) (k : Codes) (m : ℕ) → k ≡ codes_of o → not (eqb (bit_and m k.firm) 0) ≡ firm_mask o m
-firm_test o k m e = ap (λ z. not (eqb (bit_and m z.firm) 0)) e ∙ ap not (meets_none (firm_code o) m)
-
-pub may_mark_test : (o : Ops) (k : Codes) (m : ℕ) → k ≡ codes_of o → (eqb (bit_and m k.loose) 0 && not (eqb (bit_and m k.firm) 0)) ≡ may_mark o m
-may_mark_test o k m e =
-    ap (λ z. z && not (eqb (bit_and m k.firm) 0)) (settled_test o k m e) ∙ ap (λ z. settled_mask o m && z) (firm_test o k m e)
+pub firm_test : (o : Ops) (m k : ℕ) → k ≡ firm_codes o → not (eqb (bit_and m k) 0) ≡ firm_mask o m
+firm_test o m k e = ap (λ z. not (eqb (bit_and m z) 0)) e ∙ ap not (meets_none (firm_code o) m)
 
 -- one number more
 pub mask_more : (f : ℕ → Bool) (v rest r : ℕ) (b : Bool) → rest ≡ mask_below f v → b ≡ f v → r ≡ cond b (bit_or rest (2 ^ v)) rest → r ≡ mask_below f (v + 1)
@@ -167,21 +163,13 @@ turn_more o m v u rest r e t d =
     ∙ ap (λ z. cond (up m v) (bit_or (turn_below o m v) (2 ^ z)) (turn_below o m v)) t
     ∙ ap (turn_below o m) (sym (add-one v))
 
--- the test of a record that was read
-pub told_may_mark : (o : Ops) (k : Codes) (s : Store) (h p : ℕ) (r : Record) (b : Bool) → k ≡ codes_of o → p ≡ place h → r ≡ s.at p
-    → b ≡ (eqb (bit_and r.reach k.loose) 0 && not (eqb (bit_and r.reach k.firm) 0)) → b ≡ may_mark o (s.at (place h)).reach
-told_may_mark o k s h p r b e at read d = d ∙ may_mark_test o k r.reach e ∙ ap (λ z. may_mark o z.reach) (read ∙ ap s.at at)
-
--- whether a record is kept under NOT, told by masks
-pub told_turns : (o : Ops) (k : Codes) (s : Store) (low high a b m side : ℕ) (t : Bool) → k ≡ codes_of o → a ≡ reach_of o s low → b ≡ reach_of o s high → m ≡ bit_or a b
-    → side ≡ cond (not (eqb (bit_and a k.firm) 0)) low high
-    → t ≡ ((eqb (bit_and m k.loose) 0 && not (eqb (bit_and m k.firm) 0)) && not (leads_plain o side)) → t ≡ turns o s low high
-told_turns o k s low high a b m side t e ea eb em es et =
+-- whether a record is kept under NOT
+pub told_turns : (o : Ops) (s : Store) (low high a b m side : ℕ) (t : Bool) → a ≡ reach_of o s low → b ≡ reach_of o s high → m ≡ bit_or a b
+    → side ≡ cond (firm_mask o a) low high → t ≡ (may_mark o m && not (leads_plain o side)) → t ≡ turns o s low high
+told_turns o s low high a b m side t ea eb em es et =
     let mask : m ≡ union o s low high = em ∙ ap (λ z. bit_or z b) ea ∙ ap (bit_or (reach_of o s low)) eb in
-    let first : side ≡ lead o s low high = es ∙ ap (λ z. cond z low high) (firm_test o k a e ∙ ap (firm_mask o) ea) in
-    et
-    ∙ ap (λ z. z && not (leads_plain o side)) (may_mark_test o k m e ∙ ap (may_mark o) mask)
-    ∙ ap (λ z. may_mark o (union o s low high) && not (leads_plain o z)) first
+    let first : side ≡ lead o s low high = es ∙ ap (λ z. cond (firm_mask o z) low high) ea in
+    et ∙ ap (λ z. may_mark o z && not (leads_plain o side)) mask ∙ ap (λ z. may_mark o (union o s low high) && not (leads_plain o z)) first
 
 -- the record that is kept, in each case
 pub kept_plain : (o : Ops) (s : Store) (i low high a b m : ℕ) → turns o s low high ≡ false → a ≡ reach_of o s low → b ≡ reach_of o s high → m ≡ bit_or a b

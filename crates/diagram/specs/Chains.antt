@@ -1,8 +1,22 @@
 -- The index of a list of records: a chain of places for each hash of a key. Assumes nothing.
-use Rattle.std.specs.Prelude.{◌≡◌, ℕ, ◌-◌, ◌<◌, ◌≤◌, List, length, slice_index}
+use Rattle.std.specs.Prelude.{◌≡◌, ℕ, ◌-◌, ◌<◌, ◌≤◌, List, length, map, slice_index}
 use Rattle.records.specs.declared.record.Record.{Record}
+use Rattle.diagram.specs.declared.places.link.Link.{Link}
+use Rattle.diagram.specs.declared.places.Node.{Node}
 use Rattle.memo.specs.Buckets.{bucket_of}
 use Rattle.records.specs.Keys.{record_at, Keyed}
+
+-- the records of the places
+abbrev pub records_of : List Node → List Record
+records_of ns = map (λ n. n.record) ns
+
+-- a link as a number: a place and one more, or 0 for none
+abbrev pub rank : Link → ℕ
+rank l = l.number
+
+-- the links from each place to the next one of its chain
+abbrev pub links_of : List Node → List ℕ
+links_of ns = map (λ n. rank n.next) ns
 
 -- no two places have the same key
 abbrev pub Apart : List Record → Type 0
@@ -17,7 +31,7 @@ chain mask r = bucket_of mask r.input r.low r.high
 abbrev pub chain_at : ℕ → List Record → ℕ → ℕ
 chain_at mask rs q = chain mask (record_at rs q)
 
--- A link is a place and one more, or 0 for none. Each chain begins at a place in use ..
+-- Each chain begins at a place in use ..
 abbrev pub HeadsLow : List Record → List ℕ → Type 0
 HeadsLow rs heads = (b : ℕ) → slice_index heads b ≤ length rs
 
@@ -41,8 +55,12 @@ NextsOwn mask rs next = (p : ℕ) → (p < length rs) × (0 < slice_index next p
 abbrev pub NextsAll : ℕ → List Record → List ℕ → Type 0
 NextsAll mask rs next = (p q : ℕ) → (q < p) × (p < length rs) × (chain_at mask rs q ≡ chain_at mask rs p) → q < slice_index next p
 
-abbrev pub Headed : ℕ → List Record → List ℕ → Type 0
-Headed mask rs heads = HeadsLow rs heads × HeadsOwn mask rs heads × HeadsAll mask rs heads
-
-abbrev pub Linked : ℕ → List Record → List ℕ → Type 0
-Linked mask rs next = NextsLow rs next × NextsOwn mask rs next × NextsAll mask rs next
+-- So the chains lead to each place by its key, and no key stands twice.
+pub record Chained (mask : ℕ) (rs : List Record) (heads next : List ℕ) : Type 0 where
+  pub heads_low : HeadsLow rs heads
+  pub heads_own : HeadsOwn mask rs heads
+  pub heads_all : HeadsAll mask rs heads
+  pub nexts_low : NextsLow rs next
+  pub nexts_own : NextsOwn mask rs next
+  pub nexts_all : NextsAll mask rs next
+  pub apart : Apart rs

@@ -1,13 +1,8 @@
 -- Which codes of an algebra decide whether a record is kept under NOT, as masks. Assumes nothing.
-use Rattle.std.specs.Prelude.{ℕ, zero, suc, ◌^◌, Bool, cond, not, bit_or}
+use Rattle.std.specs.Prelude.{ℕ, not}
 use Rattle.algebra.specs.Ops.{Ops}
-use Rattle.diagram.specs.declared.codes.Codes.{Codes}
 use Rattle.records.specs.Rules.{settled_code, firm_code}
-
--- the numbers below m that pass a test, as a mask
-unfoldable pub mask_below : (ℕ → Bool) → ℕ → ℕ
-mask_below f zero = 0
-mask_below f (suc u) = cond (f u) (bit_or (mask_below f u) (2 ^ u)) (mask_below f u)
+use Rattle.records.specs.Supports.{mask_below}
 
 -- those that are not settled, and those that are firm
 abbrev pub loose_codes : Ops → ℕ
@@ -15,6 +10,3 @@ loose_codes o = mask_below (λ v. not (settled_code o v)) 16
 
 abbrev pub firm_codes : Ops → ℕ
 firm_codes o = mask_below (firm_code o) 16
-
-abbrev pub codes_of : Ops → Codes
-codes_of o = record { loose = loose_codes o; firm = firm_codes o }

@@ -3,3 +3,5 @@ pub mod Chains
 pub mod Uses
 pub mod Views
 pub mod Shortcuts
+pub mod Tasks
+pub mod Settles

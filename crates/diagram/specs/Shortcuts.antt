@@ -1,12 +1,11 @@
--- Results of an operator that need no walk, by the values that one operand has. Only the contracts of inner functions cite
--- this. Assumes nothing.
-use Rattle.std.specs.Prelude.{◌≡◌, ℕ, ◌<◌, min, true, cond, ◌⊎◌, Some, None, Option, nat_lt}
+-- Results of an operation that need no walk. Only the contracts of inner functions cite this. Assumes nothing.
+use Rattle.std.specs.Prelude.{◌≡◌, ℕ, ◌<◌, min, cond, ◌⊎◌, nat_lt}
 use Rattle.algebra.specs.Ops.{Ops}
 use Rattle.netlist.specs.Signals.{Agree}
-use Rattle.records.specs.Stores.{Store, level, value, up}
+use Rattle.records.specs.Stores.{Store, level, value}
 use Rattle.records.specs.Rules.{Sound, Lawful}
 use Rattle.records.specs.Makings.{From}
-use Rattle.records.specs.Walks.{combine, combined}
+use Rattle.records.specs.Walks.{combined}
 
 -- the value of an operand: a constant has its own, any other one v
 abbrev pub operand : ℕ → ℕ → ℕ
@@ -17,15 +16,6 @@ pub record Leads (x y t : ℕ) : Type 0 where
   pub left : (x < 16) ⊎ (x ≡ t)
   pub right : (y < 16) ⊎ (y ≡ t)
   pub either : (t ≡ x) ⊎ (t ≡ y)
-
--- what is wanted where the operand has the value v: a certain value, or v itself
-abbrev pub wanted_at : Option ℕ → ℕ → ℕ
-wanted_at None v = v
-wanted_at (Some w) v = w
-
--- the operator k gives what is wanted for each value of a mask
-abbrev pub Gives : Ops → ℕ → ℕ → ℕ → ℕ → Option ℕ → Type 0
-Gives o k x y mask w = (v : ℕ) → v < o.count → up mask v ≡ true → combine o k (operand x v) (operand y v) ≡ wanted_at w v
 
 -- h is k of x and y
 pub record Short (o : Ops) (s : Store) (k x y h : ℕ) : Type 0 where

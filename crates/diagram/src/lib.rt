@@ -7,8 +7,8 @@ mod handle;
 mod places;
 mod readings;
 mod shortcut;
-mod steps;
 mod table;
+mod task;
 mod walk;
 
 pub use memo::{Memo, NoMemo, RowMemo};

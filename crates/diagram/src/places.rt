@@ -1,25 +1,30 @@
-ghost use Rattle.std.specs.Prelude.{◌≡◌, ◌+◌, ◌≤◌, vec_len, vec_capacity};
-ghost use Rattle.diagram.specs.Chains.{Headed, Linked, Apart};
+ghost use Rattle.std.specs.Prelude.{◌<◌, ◌-◌, ◌≤◌, map, vec_len, vec_capacity};
+ghost use Rattle.diagram.specs.Chains.{records_of, links_of, rank, Chained};
 
+use link::Link;
 use records::Record;
 
 mod changes;
+mod link;
 mod reads;
 
-// The records in use, each key at most once, with an index by key (a unique table): a chain of places for each hash.
-// All room is reserved when the places are made: `next` is as long as `records` can grow.
-// `heads` and `next` hold a place and one more, or 0 for none. Nothing outside of this module sees the index.
+// A place in use: its record, and the next place of its chain.
+#[derive(Clone, Copy)]
+struct Node {
+    record: Record,
+    next: Link,
+}
+
+// The records in use, each key at most once, with an index by key (a unique table): a chain of places for each hash, from
+// its head down. All room is reserved when the places are made. Nothing outside of this module sees the index.
 #[derive(Drop)]
 pub(crate) struct Places {
-    records: Vec<Record>,
-    heads: Vec<u32>,
-    next: Vec<u32>,
-    mask: usize,
-    ghost small: { vec_len next ≤ 1048576 },
-    ghost reserved: { vec_len next ≤ vec_capacity records },
-    ghost within: { vec_len records ≤ vec_len next },
-    ghost masked: { vec_len heads ≡ mask + 1 },
-    ghost headed: { Headed mask records.items heads.items },
-    ghost linked: { Linked mask records.items next.items },
-    ghost apart: { Apart records.items },
+    nodes: Vec<Node>,
+    heads: Vec<Link>,
+    room: usize,
+    ghost small: { room ≤ 1048576 },
+    ghost reserved: { room ≤ vec_capacity nodes },
+    ghost within: { vec_len nodes ≤ room },
+    ghost some: { 0 < vec_len heads },
+    ghost chained: { ∥ Chained (vec_len heads - 1) (records_of nodes.items) (map rank heads.items) (links_of nodes.items) ∥₁ },
 }

@@ -34,7 +34,7 @@ impl Table {
     pub fn is_lawful<G: Algebra>(&self, algebra: &G, h: u32) -> bool
         ensures { result ≡ lawful G.ops (view self.now) h }
     {
-        self.lawful(algebra, Codes::of(algebra), h)
+        self.lawful(&Codes::of(algebra), h)
     }
 
     // The record of a handle that is no constant.
@@ -79,9 +79,7 @@ impl Table {
     pub fn value<G: Algebra>(&self, algebra: &G, h: u32, pattern: Pattern) -> Result<u8, TableFault>
         ensures { result ≡ unless_refused (value_refusal G.ops (view self.now) h pattern.width) (value G.ops (view self.now) h pattern.number) }
     {
-        if !self.is_lawful(algebra, h) {
-            return Err(TableFault::NoSuchHandle);
-        }
+        self.check_lawful(&Codes::of(algebra), h)?;
         if pattern.width() != self.inputs() {
             return Err(TableFault::NoSuchPattern);
         }
@@ -93,9 +91,8 @@ impl Table {
         ensures mask { result ≡ unless_refused (reach_refusal G.ops (view self.now) h) (reach_of G.ops (view self.now) h) }
         ensures meaning { Sound G.ops (view self.now) → IfOk result (λ m. (v : ℕ) → Decides (up m v) (Occurs G.ops (view self.now) h v)) }
     {
-        if !self.is_lawful(algebra, h) {
-            return Err(TableFault::NoSuchHandle);
-        }
-        Ok(self.reach_of(algebra, h))
+        let codes = Codes::of(algebra);
+        self.check_lawful(&codes, h)?;
+        Ok(self.reach_of(&codes, h))
     }
 }

@@ -1,20 +1,19 @@
-// Results of an operator that need no walk (its terminal cases), for any algebra: one operand is a constant, or both are
-// the same, and over all values of the other one the operator gives that value back, or always one value.
-ghost use Rattle.std.specs.Prelude.{◌≡◌, ℕ, ◌<◌, cond, T, IfSome};
+// Results that need no walk (its terminal cases), for any algebra: a constant; NOT of a handle that reaches settled values
+// alone; and where one operand is a constant, or both are the same, what an operator gives over all values of the other
+// one, if that is this value or always the same.
+ghost use Rattle.std.specs.Prelude.{◌≡◌, ℕ, ◌<◌, true, T, IfSome, MatchOption};
 ghost use Rattle.records.specs.Changes.{Within};
 ghost use Rattle.records.specs.Stores.{up};
 ghost use Rattle.records.specs.Walks.{combine};
-ghost use Rattle.diagram.specs.Shortcuts.{operand, Leads, Gives, Short};
+ghost use Rattle.diagram.specs.Shortcuts.{operand, Leads, Short};
+ghost use Rattle.diagram.specs.Tasks.{number_of};
 ghost use Rattle.diagram.specs.Views.{view};
 
-use crate::codes::is_up;
+use crate::codes::{Codes, MOST_CODES, is_up};
 use crate::handle::is_constant;
 use crate::table::Table;
-use crate::walk::leaf;
+use crate::task::{Operation, Task};
 use algebra::Algebra;
-
-// How many codes there can be.
-const MOST_CODES: u8 = 16;
 
 // The value of an operand: a constant has its own, any other one `v`.
 fn operand(h: u32, v: u8) -> u8
@@ -23,76 +22,81 @@ fn operand(h: u32, v: u8) -> u8
     if is_constant(h) { h as u8 } else { v }
 }
 
-// What the operator gives where the operand that is no constant has the value `v`.
-fn value_at<G: Algebra>(algebra: &G, op: u8, x: u32, y: u32, v: u8) -> u8
-    ensures { result ≡ combine G.ops op (operand x v) (operand y v) }
+// What the operation gives where the operand that is no constant has the value `v`.
+fn value_at<G: Algebra>(algebra: &G, task: Task, v: u8) -> u8
+    ensures { result ≡ combine G.ops (number_of task.operation) (operand task.x v) (operand task.y v) }
 {
-    leaf(algebra, op, operand(x, v), operand(y, v))
+    task.operation
+        .at(algebra, operand(task.x, v), operand(task.y, v))
 }
 
-// Whether the operator gives one certain value for each value of a mask, or, where none is wanted, that value itself.
-fn gives<G: Algebra>(algebra: &G, op: u8, x: u32, y: u32, reach: u16, wanted: Option<u8>) -> bool
-    ensures { T result → Gives G.ops op x y reach wanted }
+// Whether the operation gives what is wanted for each value of a mask.
+fn gives<G: Algebra, F: Fn(u8) -> u8>(algebra: &G, task: Task, reach: u16, wanted: F) -> bool
+    requires { F.IsAlwaysCallable wanted }
+    ensures { T result → (v : ℕ) → v < G.ops.count → up reach v ≡ true
+        → F.post wanted v (combine G.ops (number_of task.operation) (operand task.x v) (operand task.y v)) }
 {
-    for v in 0..algebra.value_count().min(MOST_CODES) {
-        if is_up(reach, v) && value_at(algebra, op, x, y, v) != wanted.unwrap_or(v) {
+    for v in 0..G::COUNT.min(MOST_CODES) {
+        if is_up(reach, v) && value_at(algebra, task, v) != wanted(v) {
             return false;
         }
     }
     true
 }
 
-// Some value of a mask.
-fn some_value(reach: u16) -> u8 {
-    for v in 0..MOST_CODES {
-        if is_up(reach, v) {
-            return v;
-        }
-    }
-    0
-}
-
 // The result by the values of the operand that is no constant.
-fn by_values<G: Algebra>(
-    table: &Table,
-    algebra: &G,
-    op: u8,
-    x: u32,
-    y: u32,
-    lead: u32,
-) -> Option<u32>
+fn by_values<G: Algebra>(table: &Table, codes: &Codes<G>, task: Task, lead: u32) -> Option<u32>
     requires lead { Within (view table.now) lead }
-    requires leads { Leads x y lead }
-    ensures { IfSome result (Short G.ops (view table.now) op x y) }
+    requires leads { Leads task.x task.y lead }
+    ensures { IfSome result (Short G.ops (view table.now) (number_of task.operation) task.x task.y) }
 {
-    let reach = table.reach_of(algebra, lead);
-    if gives(algebra, op, x, y, reach, None) {
+    let reach = table.reach_of(codes, lead);
+    if gives(codes.algebra, task, reach, |v| v) {
         return Some(lead);
     }
-    let result = value_at(algebra, op, x, y, some_value(reach));
-    if gives(algebra, op, x, y, reach, Some(result)) {
+    let some = (0..MOST_CODES).find(|v| is_up(reach, *v))?;
+    let result = value_at(codes.algebra, task, some);
+    if gives(codes.algebra, task, reach, |_| result) {
         return Some(result as u32);
     }
     None
 }
 
 // The handle of an operator's result, where the values that the operands have tell it.
-pub(crate) fn shortcut<G: Algebra>(
-    table: &Table,
-    algebra: &G,
-    op: u8,
-    x: u32,
-    y: u32,
-) -> Option<u32>
-    requires x { Within (view table.now) x }
-    requires y { Within (view table.now) y }
-    ensures { IfSome result (Short G.ops (view table.now) op x y) }
+fn joined<G: Algebra>(table: &Table, codes: &Codes<G>, task: Task) -> Option<u32>
+    requires x { Within (view table.now) task.x }
+    requires y { Within (view table.now) task.y }
+    ensures { IfSome result (Short G.ops (view table.now) (number_of task.operation) task.x task.y) }
 {
-    if is_constant(x) {
-        return by_values(table, algebra, op, x, y, y);
+    if is_constant(task.x) {
+        return by_values(table, codes, task, task.y);
     }
-    if is_constant(y) || x == y {
-        return by_values(table, algebra, op, x, y, x);
+    if is_constant(task.y) || task.x == task.y {
+        return by_values(table, codes, task, task.x);
     }
     None
+}
+
+// The handle of a task's result, where it takes no walk.
+pub(crate) fn shortcut<G: Algebra>(table: &Table, codes: &Codes<G>, task: Task) -> Option<u32>
+    requires x { Within (view table.now) task.x }
+    requires y { Within (view table.now) task.y }
+    ensures { MatchOption result
+        (task.x < 16 → task.y < 16 → ⊥)
+        (Short G.ops (view table.now) (number_of task.operation) task.x task.y) }
+{
+    if is_constant(task.x) && is_constant(task.y) {
+        let value = task.operation.at(codes.algebra, task.x as u8, task.y as u8);
+        return Some(value as u32);
+    }
+    match task.operation {
+        Operation::Join(_) => joined(table, codes, task),
+        Operation::Turn => {
+            if codes.settled(table.reach_of(codes, task.x)) {
+                Some(table.negate(codes, task.x))
+            } else {
+                None
+            }
+        }
+    }
 }

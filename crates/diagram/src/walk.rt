@@ -1,97 +1,63 @@
 // The walk over two handles by which every NOT and every operator is done (apply, with its computed table).
 ghost use Rattle.std.specs.Prelude.{◌≡◌, ◌+◌, ◌<◌, min, length};
+ghost use Rattle.diagram.specs.Tasks.{number_of};
 ghost use Rattle.records.specs.Changes.{Within, Grows};
-ghost use Rattle.diagram.specs.Codes.{codes_of};
 ghost use Rattle.records.specs.Stores.{level};
 ghost use Rattle.diagram.specs.Views.{view, room};
-ghost use Rattle.records.specs.Walks.{combine, WalkShape, Walked};
+ghost use Rattle.records.specs.Walks.{WalkShape, Walked};
 
 use crate::codes::Codes;
-use crate::handle::is_constant;
 use crate::shortcut::shortcut;
 use crate::table::Table;
+use crate::task::Task;
 use algebra::Algebra;
 use memo::Memo;
 use records::{Full, Row};
 
-// The number under which NOT is done and filed, beside those of the operators.
-pub(crate) const TURN: u8 = 2;
-
-// What stands at a leaf of the walk.
-pub(crate) fn leaf<G: Algebra>(algebra: &G, op: u8, x: u8, y: u8) -> u8
-    ensures { result ≡ combine G.ops op x y }
-{
-    if op == TURN {
-        algebra.turn(x)
-    } else {
-        algebra.operate_by_number(op, x, y)
-    }
-}
-
-// The operator `op` of two handles, or NOT of the first. Both are split at the input that either tests first; the walk goes
-// down the 0 sides, then the 1 sides, and makes the record of the two. Each level has the first of its rows, and lends the
-// others to the next.
+// The handle of a task's result. Both handles are split at the input that either tests first; the walk goes down the 0
+// sides, then the 1 sides, and makes the record of the two. Each level has the first of its rows, and lends the others to
+// the next.
 pub(crate) fn walk<G: Algebra, M: Memo>(
     table: &mut Table,
-    algebra: &G,
-    codes: Codes,
+    codes: &Codes<G>,
     memo: &mut M,
     rows: &mut [Row],
-    op: u8,
-    x: u32,
-    y: u32,
+    task: Task,
 ) -> Result<u32, Full>
-    requires codes { codes ≡ codes_of G.ops }
-    requires x { Within (view table.old) x }
-    requires y { Within (view table.old) y }
-    requires rows { (view table.old).inputs < length rows.old + min (level (view table.old) x) (level (view table.old) y) }
+    requires x { Within (view table.old) task.x }
+    requires y { Within (view table.old) task.y }
+    requires rows { (view table.old).inputs < length rows.old + min (level (view table.old) task.x) (level (view table.old) task.y) }
     ensures grows { Grows (view table.old) (view table.new) }
     ensures room { room table.new ≡ room table.old }
-    ensures shape { WalkShape (view table.old) (view table.new) x y result }
-    ensures meaning { Walked G.ops (room table.old) (view table.old) (view table.new) (M.recalls memo.old) (M.recalls memo.new) op x y result }
+    ensures shape { WalkShape (view table.old) (view table.new) task.x task.y result }
+    ensures meaning { Walked G.ops (room table.old) (view table.old) (view table.new) (M.recalls memo.old) (M.recalls memo.new) (number_of task.operation) task.x task.y result }
 {
-    if is_constant(x) && is_constant(y) {
-        return Ok(leaf(algebra, op, x as u8, y as u8) as u32);
-    }
-    if op == TURN && codes.settled(table.reach_of(algebra, x)) {
-        return Ok(table.negate(algebra, codes, x));
-    }
-    if op != TURN {
-        if let Some(h) = shortcut(table, algebra, op, x, y) {
-            return Ok(h);
-        }
+    if let Some(h) = shortcut(table, codes, task) {
+        return Ok(h);
     }
     let (own, rest) = rows.split_at_mut(1);
     let own = &mut own[0];
-    let input = table.level(x).min(table.level(y));
-    if let Some(h) = memo.get(op, x, y) {
+    let input = table.level(task.x).min(table.level(task.y));
+    let number = task.operation.number();
+    if let Some(h) = memo.get(number, task.x, task.y) {
         if table.is_from(h, input) {
             return Ok(h);
         }
     }
-    *own = table.cut(algebra, codes, x, y);
-    let low = walk(
-        table,
-        algebra,
-        codes,
-        memo,
-        rest,
-        op,
-        own.low,
-        own.low_other,
-    )?;
-    own.low = low;
-    let high = walk(
-        table,
-        algebra,
-        codes,
-        memo,
-        rest,
-        op,
-        own.high,
-        own.high_other,
-    )?;
-    let h = table.make(algebra, codes, own.input, own.low, high)?;
-    memo.put(op, x, y, h);
+    *own = table.cut(codes, task.x, task.y);
+    let down = Task {
+        x: own.low,
+        y: own.low_other,
+        ..task
+    };
+    own.low = walk(table, codes, memo, rest, down)?;
+    let up = Task {
+        x: own.high,
+        y: own.high_other,
+        ..task
+    };
+    let high = walk(table, codes, memo, rest, up)?;
+    let h = table.make(codes, own.input, own.low, high)?;
+    memo.put(number, task.x, task.y, h);
     Ok(h)
 }

@@ -29,7 +29,7 @@ told_past : (e o a b : ℕ) (r : Row) → r.epoch < e → told e r o a b ≡ Non
 told_past e o a b r l =
     cond-false _ (Some r.h) None (and_left (eqb r.epoch e) _ (ne_eqb r.epoch e (λ f. omega arith)))
 
-pub none_past : (e f mask : ℕ) (rows : List Row) → Past f rows → f < e → NoPairs (told_by e mask rows)
+none_past : (e f mask : ℕ) (rows : List Row) → Past f rows → f < e → NoPairs (told_by e mask rows)
 none_past e f mask rows past l o a b =
     told_past e o a b (row_at rows (bucket_of mask o a b)) (omega (arith, past (bucket_of mask o a b)))
 
@@ -41,20 +41,20 @@ past_set e i rows r l now past j =
     (λ other. subst (λ z. z.epoch ≤ e) (sym (get_or-set_other rows i j r blank_row other)) (past j))
     (cases_eq j i)
 
--- rows that are all blank
-pub past_none : (rows : List Row) → ((i : ℕ) → i < length rows → row_at rows i ≡ blank_row) → Past 0 rows
-past_none rows blank i =
-    let at : row_at rows i ≡ blank_row = ⊎_elim (λ l. blank i l) (λ l. get_or_past rows i blank_row l) (cases_lt i (length rows)) in
-    omega (arith, ap (λ r. r.epoch) at)
-
-pub past_blank : (n : ℕ) (rows : List Row) → rows ≡ replicate n blank_row → Past 0 rows
-past_blank n rows e =
-    past_none rows (λ i l.
-    let k : i < n = omega (arith, ap length e, length-replicate n blank_row) in
-    ap (λ rs. row_at rs i) e ∙ get_or-replicate n i blank_row blank_row k)
-
-pub past_more : (e f : ℕ) (rows : List Row) → e ≤ f → Past e rows → Past f rows
-past_more e f rows l past i = omega (arith, past i)
+-- rows that were never written
+pub fresh : (mask n : ℕ) (rows : List Row) (r : Row) → r.epoch ≡ 0 → rows ≡ replicate n r → Past 1 rows × NoPairs (told_by 1 mask rows)
+fresh mask n rows r zero e =
+    (λ i. omega (arith, past i), none_past 1 0 mask rows past (omega arith))
+  where
+    past : Past 0 rows
+    past i =
+        let at : (row_at (replicate n r) i).epoch ≡ 0 =
+        ⊎_elim
+        (λ l. ap (λ q. q.epoch) (get_or-replicate n i r blank_row l) ∙ zero)
+        (λ l. ap (λ q. q.epoch) (get_or_past (replicate n r) i blank_row (simp length-replicate l)))
+        (cases_lt i n)
+        in
+        omega (arith, ap (λ rs. (row_at rs i).epoch) e)
 
 pub puts_set : (e mask i : ℕ) (rows : List Row) (r : Row) → i ≡ bucket_of mask r.op r.x r.y → i < length rows → r.epoch ≡ e → Puts (told_by e mask rows) (told_by e mask (set rows i r)) r.op r.x r.y r.h
 puts_set e mask i rows r own l now =

@@ -1,10 +1,11 @@
-ghost use Rattle.std.specs.Prelude.{◌≡◌, ◌+◌, vec_len};
+ghost use Rattle.std.specs.Prelude.{◌<◌, vec_len};
 ghost use Rattle.memo.specs.Rows.{Past};
 
 mod calls;
 
-// A row of a memo: a pair, and the epoch in which it was laid.
-#[derive(Clone, Copy)]
+// A row of a memo: a pair, and the epoch in which it was laid. A row that was never written is of epoch 0, before the
+// first.
+#[derive(Clone, Copy, Default)]
 pub(crate) struct Row {
     x: u32,
     y: u32,
@@ -18,8 +19,7 @@ pub(crate) struct Row {
 #[derive(Drop)]
 pub struct RowMemo {
     rows: Vec<Row>,
-    mask: usize,
     epoch: u32,
-    ghost masked: { vec_len rows ≡ mask + 1 },
+    ghost some: { 0 < vec_len rows },
     ghost past: { Past epoch rows.items },
 }

@@ -1,27 +1,28 @@
 ghost use Rattle.std.specs.Prelude.{◌≡◌};
 ghost use Rattle.records.specs.Faults.{table_fault_number};
+ghost use Rattle.records.specs.declared.fault.TableFault.TheVariants.{Full};
 
-// Why a call on a table is refused.
+// Why a call on a table is refused, by its number in reports.
 #[derive(Clone, Copy, PartialEq, Eq, Debug)]
 pub enum TableFault {
     // over 60 inputs
-    TooManyInputs,
+    TooManyInputs = 21,
     // fewer work rows than inputs + 1
-    FewRows,
+    FewRows = 22,
     // no lawful handle
-    NoSuchHandle,
-    NoSuchInput,
-    NoSuchCode,
+    NoSuchHandle = 23,
+    NoSuchInput = 24,
+    NoSuchCode = 25,
     // no such operator, or one that the algebra lacks
-    NoSuchOperator,
+    NoSuchOperator = 26,
     // a pattern of another width than the table's
-    NoSuchPattern,
+    NoSuchPattern = 29,
     // all places are in use
-    Full,
+    Full = 31,
 }
 
 // No place is left.
-#[derive(Clone, Copy)]
+#[derive(Clone, Copy, PartialEq, Eq, Debug)]
 pub struct Full;
 
 impl TableFault {
@@ -29,15 +30,14 @@ impl TableFault {
     pub fn number(self) -> u8
         ensures { result ≡ table_fault_number self }
     {
-        match self {
-            TableFault::TooManyInputs => 21,
-            TableFault::FewRows => 22,
-            TableFault::NoSuchHandle => 23,
-            TableFault::NoSuchInput => 24,
-            TableFault::NoSuchCode => 25,
-            TableFault::NoSuchOperator => 26,
-            TableFault::NoSuchPattern => 29,
-            TableFault::Full => 31,
-        }
+        self as u8
+    }
+}
+
+impl From<Full> for TableFault {
+    ghost from_gives = { λ _ f. f ≡ Full };
+
+    fn from(_full: Full) -> TableFault {
+        TableFault::Full
     }
 }

@@ -1,10 +1,9 @@
-ghost use Rattle.std.specs.Prelude.{◌≡◌, ◌-◌, ◌<◌, ◌≤◌, min, [], ◌∷◌, ◌++◌, length, take, IfOk, if◌then◌else◌, nat_lt};
-ghost use Rattle.memo.specs.Buckets.{bucket_of};
+ghost use Rattle.std.specs.Prelude.{◌≡◌, ◌-◌, ◌<◌, ◌≤◌, min, [], length, take, IfOk};
 ghost use Rattle.records.specs.Keys.{Absent, Added};
 ghost use Rattle.diagram.specs.Uses.{in_use, room_for};
 
-use super::Places;
-use memo::bucket;
+use super::link::Link;
+use super::{Node, Places};
 use records::Record;
 use std::alloc::{AllocError, Global};
 
@@ -16,36 +15,30 @@ impl Places {
     pub(crate) fn new(heap: Global, capacity: usize) -> Result<Places, AllocError>
         ensures { IfOk result (λ t. (in_use t ≡ []) × (room_for t ≡ min capacity 1048576)) }
     {
-        let capacity = capacity.min(MOST);
-        let chains = capacity.next_power_of_two();
-        let records = Vec::with_capacity(heap, capacity)?;
-        let heads = vec![in heap; 0u32; chains]?;
-        let next = vec![in heap; 0u32; capacity]?;
-        Ok(Places {
-            records,
-            heads,
-            next,
-            mask: chains - 1,
-        })
+        let room = capacity.min(MOST);
+        let nodes = Vec::with_capacity(heap, room)?;
+        let heads = vec![in heap; Link::default(); room.next_power_of_two()]?;
+        Ok(Places { nodes, heads, room })
     }
 
-    // Puts `r`, whose key is in the chain `b` and which no record has, at the next place, or says that all are in use.
-    fn put(&mut self, b: usize, r: Record) -> bool
-        requires chain { b ≡ bucket_of self.old.mask r.input r.low r.high }
-        requires within { b ≤ self.old.mask }
-        requires absent { Absent (in_use self.old) r.input r.low r.high }
-        ensures test { result ≡ nat_lt (length (in_use self.old)) (room_for self.old) }
-        ensures list { in_use self.new ≡ (if result then in_use self.old ++ r ∷ [] else in_use self.old) }
+    // Puts `r`, whose key no record has, at the next place, if there is one.
+    fn put(&mut self, r: Record) -> Option<usize>
+        requires { Absent (in_use self.old) r.input r.low r.high }
+        ensures place { Added (in_use self.old) (room_for self.old) r result (in_use self.new) }
         ensures room { room_for self.new ≡ room_for self.old }
     {
-        let p = self.records.len();
-        if p == self.next.len() {
-            return false;
+        let p = self.nodes.len();
+        if p == self.room {
+            return None;
         }
-        self.next[p] = self.heads[b];
-        self.heads[b] = p as u32 + 1;
-        self.records.push_reserved(r);
-        true
+        let b = self.chain_of(r);
+        let node = Node {
+            record: r,
+            next: self.heads[b],
+        };
+        self.heads[b] = Link::to(p);
+        self.nodes.push_reserved(node);
+        Some(p)
     }
 
     // The place of `r`'s key, at which `r` is put if no place has the key; `None` where all places are in use then.
@@ -53,13 +46,9 @@ impl Places {
         ensures place { Added (in_use self.old) (room_for self.old) r result (in_use self.new) }
         ensures room { room_for self.new ≡ room_for self.old }
     {
-        let b = bucket(self.mask, r.input, r.low, r.high);
-        match self.seek(b, r.input, r.low, r.high) {
+        match self.seek(r) {
             Some(p) => Some(p),
-            None => {
-                let p = self.records.len();
-                if self.put(b, r) { Some(p) } else { None }
-            }
+            None => self.put(r),
         }
     }
 
@@ -69,11 +58,11 @@ impl Places {
         ensures list { in_use self.new ≡ take (length (in_use self.old) - 1) (in_use self.old) }
         ensures room { room_for self.new ≡ room_for self.old }
     {
-        let p = self.records.len() - 1;
-        let r = self.records[p];
-        let b = bucket(self.mask, r.input, r.low, r.high);
-        self.heads[b] = self.next[p];
-        self.records.truncate(p);
+        let p = self.nodes.len() - 1;
+        let node = self.nodes[p];
+        let b = self.chain_of(node.record);
+        self.heads[b] = node.next;
+        self.nodes.truncate(p);
     }
 
     // Back to the first `n` records.
@@ -82,7 +71,7 @@ impl Places {
         ensures list { in_use self.new ≡ take n (in_use self.old) }
         ensures room { room_for self.new ≡ room_for self.old }
     {
-        while n < self.records.len() {
+        for _ in n..self.nodes.len() {
             self.drop_last();
         }
     }

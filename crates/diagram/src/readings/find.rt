@@ -8,7 +8,7 @@ ghost use Rattle.records.specs.Stores.{level, value, up};
 ghost use Rattle.diagram.specs.Views.{view};
 
 use super::under_mark;
-use crate::codes::is_up;
+use crate::codes::{Codes, is_up};
 use crate::handle::is_constant;
 use crate::table::Table;
 use algebra::Algebra;
@@ -25,7 +25,7 @@ impl Table {
 
     // The first pattern on which a handle in use has a value that it reaches. Patterns with an input's bit down come
     // first, so the way down takes the 0 side where that reaches the value, and else the 1 side; a skipped input is 0.
-    fn first_in_use<G: Algebra>(&self, algebra: &G, h: u32, wanted: u8) -> u64
+    fn first_in_use<G: Algebra>(&self, codes: &Codes<G>, h: u32, wanted: u8) -> u64
         requires within { Within (view self.now) h }
         requires code { wanted < G.ops.count }
         ensures small { result < 2 ^ ((view self.now).inputs - level (view self.now) h) }
@@ -36,11 +36,11 @@ impl Table {
             return 0;
         }
         let record = self.record_of(h);
-        let below = under_mark(algebra, h, wanted);
-        if is_up(self.reach_of(algebra, record.low), below) {
-            return self.first_in_use(algebra, record.low, below);
+        let below = under_mark(codes.algebra, h, wanted);
+        if is_up(self.reach_of(codes, record.low), below) {
+            return self.first_in_use(codes, record.low, below);
         }
-        let rest = self.first_in_use(algebra, record.high, below);
+        let rest = self.first_in_use(codes, record.high, below);
         self.pattern_of(record.input) + rest
     }
 
@@ -58,15 +58,14 @@ impl Table {
         ensures meaning { Sound G.ops (view self.now)
             → result ≡ unless_refused (find_refusal G.ops (view self.now) h wanted) (first (view self.now).inputs (value G.ops (view self.now) h) wanted) }
     {
-        if !self.is_lawful(algebra, h) {
-            return Err(TableFault::NoSuchHandle);
-        }
-        if wanted >= algebra.value_count() {
+        let codes = Codes::of(algebra);
+        self.check_lawful(&codes, h)?;
+        if wanted >= G::COUNT {
             return Err(TableFault::NoSuchCode);
         }
-        if !is_up(self.reach_of(algebra, h), wanted) {
+        if !is_up(self.reach_of(&codes, h), wanted) {
             return Ok(None);
         }
-        Ok(Some(self.first_in_use(algebra, h, wanted)))
+        Ok(Some(self.first_in_use(&codes, h, wanted)))
     }
 }

@@ -3,30 +3,14 @@ ghost use Rattle.records.specs.Changes.{Within};
 ghost use Rattle.records.specs.Faults.{support_refusal, refusal_of, unless_refused};
 ghost use Rattle.records.specs.Rules.{Sound};
 ghost use Rattle.records.specs.Stores.{value, up};
-ghost use Rattle.records.specs.Supports.{support_of, Covers, Collected, AllDone, done_at};
+ghost use Rattle.records.specs.Supports.{support_of, Covers, Collected, AllDone};
 ghost use Rattle.diagram.specs.Views.{view};
 
+use crate::codes::Codes;
 use crate::handle::{handle_of, is_constant, place_of};
 use crate::table::Table;
 use algebra::Algebra;
 use records::{Row, TableFault};
-
-// A row that holds nothing as done: no input matters to a constant.
-const BLANK: Row = Row {
-    input: 0,
-    low: 0,
-    high: 0,
-    low_other: 0,
-    high_other: 0,
-};
-
-fn clear(rows: &mut [Row])
-    ensures { (k : ℕ) → k < length rows.new → done_at rows.new k ≡ 0 }
-{
-    for row in rows.iter_mut() {
-        *row = BLANK;
-    }
-}
 
 // Whether a mask has every input from one on.
 fn has_rest(mask: u64, from: u8, inputs: u8) -> bool
@@ -46,9 +30,10 @@ impl Table {
         ensures { result < rows }
     {
         if rows < self.used() {
-            return input as usize;
+            input as usize
+        } else {
+            place
         }
-        place
     }
 
     // A mask with the inputs that matter to `h` besides: those that the records below it test. A row holds a place whose
@@ -95,13 +80,10 @@ impl Table {
         ensures meaning { Sound G.ops (view self.now)
             → result ≡ unless_refused (support_refusal G.ops (view self.now) (length rows.old) h) (support_of (view self.now).inputs (value G.ops (view self.now) h)) }
     {
-        if rows.len() <= self.inputs() as usize {
-            return Err(TableFault::FewRows);
-        }
-        if !self.is_lawful(algebra, h) {
-            return Err(TableFault::NoSuchHandle);
-        }
-        clear(rows);
+        self.check_rows(rows)?;
+        self.check_lawful(&Codes::of(algebra), h)?;
+        // no input matters to a constant, so that a blank row holds nothing as done
+        rows.fill(Row::default());
         Ok(self.collect(rows, h, 0))
     }
 }

@@ -3,12 +3,13 @@ ghost use Rattle.records.specs.Changes.{Grows};
 ghost use Rattle.memo.specs.Memos.{NoPairs};
 ghost use Rattle.records.specs.Steps.{Fits, Adds, Back};
 ghost use Rattle.records.specs.Stores.{store};
+ghost use Rattle.diagram.specs.Settles.{Settled};
 ghost use Rattle.diagram.specs.Views.{view, room};
 
 use super::Table;
 use crate::places::Places;
 use memo::Memo;
-use records::Record;
+use records::{Full, Record, TableFault};
 use std::alloc::{AllocError, Global};
 
 impl Table {
@@ -58,5 +59,25 @@ impl Table {
     {
         self.truncate(used);
         memo.clear();
+    }
+
+    // The handle that was made, or, where the table was found full, back to the first `used` places.
+    pub(crate) fn settle<M: Memo>(
+        &mut self,
+        memo: &mut M,
+        used: usize,
+        made: Result<u32, Full>,
+    ) -> Result<u32, TableFault>
+        requires { used ≤ (view self.old).used }
+        ensures outcome { Settled (view self.old) used (view self.new) (M.recalls memo.old) (M.recalls memo.new) made result }
+        ensures room { room self.new ≡ room self.old }
+    {
+        match made {
+            Ok(h) => Ok(h),
+            Err(full) => {
+                self.cut_back(memo, used);
+                Err(full.into())
+            }
+        }
     }
 }

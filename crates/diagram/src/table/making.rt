@@ -1,14 +1,14 @@
 // Making the record of an input and two sides (the reduced node of a decision diagram).
-ghost use Rattle.std.specs.Prelude.{◌≡◌, ◌<◌, not, ◌&&◌, if◌then◌else◌, ◌==◌, bit_and};
+ghost use Rattle.std.specs.Prelude.{◌≡◌, ◌<◌, not, ◌&&◌, if◌then◌else◌};
 ghost use Rattle.records.specs.Changes.{Within, Grows};
-ghost use Rattle.diagram.specs.Codes.{codes_of};
 ghost use Rattle.records.specs.Makings.{Beyond, MakeShape, Making};
 ghost use Rattle.records.specs.Marks.{leads_plain, turns, kept};
+ghost use Rattle.records.specs.Rules.{firm_mask, may_mark};
 ghost use Rattle.diagram.specs.Views.{view, room};
 
 use super::Table;
 use super::marks::leads_plain;
-use crate::codes::{Codes, turn_mask};
+use crate::codes::Codes;
 use crate::handle::handle_with;
 use algebra::Algebra;
 use records::{Full, Record};
@@ -21,8 +21,8 @@ struct Kept {
 }
 
 // The side that has the first firm value: patterns with the input's bit down come first.
-fn lead_side(codes: Codes, low_reach: u16, low: u32, high: u32) -> u32
-    ensures { result ≡ (if not (bit_and low_reach codes.firm == 0) then low else high) }
+fn lead_side<G: Algebra>(codes: &Codes<G>, low_reach: u16, low: u32, high: u32) -> u32
+    ensures { result ≡ (if firm_mask G.ops low_reach then low else high) }
 {
     if codes.some_firm(low_reach) {
         low
@@ -32,24 +32,23 @@ fn lead_side(codes: Codes, low_reach: u16, low: u32, high: u32) -> u32
 }
 
 // Whether a record with this reach is kept under NOT.
-fn is_turned<G: Algebra>(algebra: &G, codes: Codes, reach: u16, lead: u32) -> bool
-    ensures { result ≡ ((bit_and reach codes.loose == 0 && not (bit_and reach codes.firm == 0)) && not (leads_plain G.ops lead)) }
+fn is_turned<G: Algebra>(codes: &Codes<G>, reach: u16, lead: u32) -> bool
+    ensures { result ≡ (may_mark G.ops reach && not (leads_plain G.ops lead)) }
 {
-    codes.may_mark(reach) && !leads_plain(algebra, lead)
+    codes.may_mark(reach) && !leads_plain(codes.algebra, lead)
 }
 
 impl Table {
-    fn kept<G: Algebra>(&self, algebra: &G, codes: Codes, input: u8, low: u32, high: u32) -> Kept
-        requires codes { codes ≡ codes_of G.ops }
+    fn kept<G: Algebra>(&self, codes: &Codes<G>, input: u8, low: u32, high: u32) -> Kept
         requires low { Within (view self.now) low }
         requires high { Within (view self.now) high }
         ensures record { result.record ≡ kept G.ops (view self.now) input low high }
         ensures turned { result.turned ≡ turns G.ops (view self.now) low high }
     {
-        let low_reach = self.reach_of(algebra, low);
-        let reach = low_reach | self.reach_of(algebra, high);
+        let low_reach = self.reach_of(codes, low);
+        let reach = low_reach | self.reach_of(codes, high);
         let lead = lead_side(codes, low_reach, low, high);
-        let turned = is_turned(algebra, codes, reach, lead);
+        let turned = is_turned(codes, reach, lead);
         if !turned {
             let record = Record {
                 low,
@@ -60,9 +59,9 @@ impl Table {
             return Kept { record, turned };
         }
         let record = Record {
-            low: self.negate(algebra, codes, low),
-            high: self.negate(algebra, codes, high),
-            reach: turn_mask(algebra, reach),
+            low: self.negate(codes, low),
+            high: self.negate(codes, high),
+            reach: codes.turn_mask(reach),
             input,
         };
         Kept { record, turned }
@@ -71,13 +70,11 @@ impl Table {
     // The handle that is `low` where the input's bit is down and `high` where it is up. At most one place is taken.
     pub(crate) fn make<G: Algebra>(
         &mut self,
-        algebra: &G,
-        codes: Codes,
+        codes: &Codes<G>,
         input: u8,
         low: u32,
         high: u32,
     ) -> Result<u32, Full>
-        requires codes { codes ≡ codes_of G.ops }
         requires inside { input < (view self.old).inputs }
         requires low { Beyond (view self.old) input low }
         requires high { Beyond (view self.old) input high }
@@ -89,10 +86,8 @@ impl Table {
         if low == high {
             return Ok(low);
         }
-        let kept = self.kept(algebra, codes, input, low, high);
-        match self.add(kept.record) {
-            Some(p) => Ok(handle_with(p, kept.turned)),
-            None => Err(Full),
-        }
+        let kept = self.kept(codes, input, low, high);
+        let p = self.add(kept.record).ok_or(Full)?;
+        Ok(handle_with(p, kept.turned))
     }
 }

@@ -1,15 +1,15 @@
 // NOT of a handle, and the values that a handle has.
-ghost use Rattle.std.specs.Prelude.{◌≡◌, ◌<◌, ◌≤◌};
+ghost use Rattle.std.specs.Prelude.{◌≡◌, ◌<◌, ◌≤◌, false, MatchResult};
 ghost use Rattle.records.specs.Changes.{Within};
-ghost use Rattle.diagram.specs.Codes.{codes_of};
 ghost use Rattle.records.specs.Marks.{flipped, negate, reach_of, leads_plain};
-ghost use Rattle.records.specs.Rules.{lawful};
+ghost use Rattle.records.specs.Rules.{lawful, Lawful};
 ghost use Rattle.diagram.specs.Views.{view};
 
 use super::Table;
-use crate::codes::{Codes, turn_mask};
+use crate::codes::Codes;
 use crate::handle::{is_constant, is_marked, place_of};
 use algebra::Algebra;
+use records::TableFault;
 
 // The handle with its mark changed.
 fn flip(h: u32) -> u32
@@ -33,13 +33,12 @@ pub(super) fn leads_plain<G: Algebra>(algebra: &G, h: u32) -> bool
 
 impl Table {
     // NOT of a handle that reaches settled values alone.
-    pub(crate) fn negate<G: Algebra>(&self, algebra: &G, codes: Codes, h: u32) -> u32
-        requires within { Within (view self.now) h }
-        requires codes { codes ≡ codes_of G.ops }
+    pub(crate) fn negate<G: Algebra>(&self, codes: &Codes<G>, h: u32) -> u32
+        requires { Within (view self.now) h }
         ensures { result ≡ negate G.ops (view self.now) h }
     {
         if is_constant(h) {
-            algebra.turn(h as u8) as u32
+            codes.algebra.turn(h as u8) as u32
         } else if codes.may_mark(self.record_at(place_of(h)).reach) {
             flip(h)
         } else {
@@ -48,7 +47,7 @@ impl Table {
     }
 
     // The values that a handle has, as a mask.
-    pub(crate) fn reach_of<G: Algebra>(&self, algebra: &G, h: u32) -> u16
+    pub(crate) fn reach_of<G: Algebra>(&self, codes: &Codes<G>, h: u32) -> u16
         requires { Within (view self.now) h }
         ensures { result ≡ reach_of G.ops (view self.now) h }
     {
@@ -57,27 +56,37 @@ impl Table {
         }
         let reach = self.record_at(place_of(h)).reach;
         if is_marked(h) {
-            turn_mask(algebra, reach)
+            codes.turn_mask(reach)
         } else {
             reach
         }
     }
 
     // Whether a handle is a code of the algebra or a place in use, marked only where it may be.
-    pub(crate) fn lawful<G: Algebra>(&self, algebra: &G, codes: Codes, h: u32) -> bool
-        requires { codes ≡ codes_of G.ops }
+    pub(crate) fn lawful<G: Algebra>(&self, codes: &Codes<G>, h: u32) -> bool
         ensures { result ≡ lawful G.ops (view self.now) h }
     {
         if is_constant(h) {
-            return h < algebra.value_count() as u32;
+            return h < G::COUNT as u32;
         }
         let p = place_of(h);
-        if p >= self.used() {
-            return false;
+        p < self.used() && (!is_marked(h) || codes.may_mark(self.record_at(p).reach))
+    }
+
+    // Refuses a handle that is not lawful.
+    pub(crate) fn check_lawful<G: Algebra>(
+        &self,
+        codes: &Codes<G>,
+        h: u32,
+    ) -> Result<(), TableFault>
+        ensures { MatchResult result
+            (λ _. Lawful G.ops (view self.now) h)
+            (λ f. (f ≡ TableFault.NoSuchHandle) × (lawful G.ops (view self.now) h ≡ false)) }
+    {
+        if self.lawful(codes, h) {
+            Ok(())
+        } else {
+            Err(TableFault::NoSuchHandle)
         }
-        if !is_marked(h) {
-            return true;
-        }
-        codes.may_mark(self.record_at(p).reach)
     }
 }

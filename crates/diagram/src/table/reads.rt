@@ -1,4 +1,4 @@
-ghost use Rattle.std.specs.Prelude.{◌≡◌, ◌<◌, ◌≤◌};
+ghost use Rattle.std.specs.Prelude.{◌≡◌, ◌<◌, ◌≤◌, length, MatchResult};
 ghost use Rattle.records.specs.Changes.{Within};
 ghost use Rattle.records.specs.Steps.{Split};
 ghost use Rattle.records.specs.Stores.{level};
@@ -6,9 +6,22 @@ ghost use Rattle.diagram.specs.Views.{view};
 
 use super::{Sides, Table};
 use crate::handle::{is_constant, place_of};
-use records::Record;
+use records::{Record, Row, TableFault};
 
 impl Table {
+    // Refuses fewer work rows than inputs + 1.
+    pub(crate) fn check_rows(&self, rows: &[Row]) -> Result<(), TableFault>
+        ensures { MatchResult result
+            (λ _. (view self.now).inputs < length rows.now)
+            (λ f. (f ≡ TableFault.FewRows) × (length rows.now ≤ (view self.now).inputs)) }
+    {
+        if (self.inputs as usize) < rows.len() {
+            Ok(())
+        } else {
+            Err(TableFault::FewRows)
+        }
+    }
+
     pub(crate) fn record_at(&self, p: usize) -> Record
         requires { p < (view self.now).used }
         ensures { result ≡ (view self.now).at p }

@@ -1,7 +1,6 @@
 // Splitting handles at an input (their cofactors).
 ghost use Rattle.std.specs.Prelude.{◌≡◌, ◌<◌, ◌≤◌, MatchBool};
 ghost use Rattle.records.specs.Changes.{Within};
-ghost use Rattle.diagram.specs.Codes.{codes_of};
 ghost use Rattle.records.specs.Makings.{From};
 ghost use Rattle.records.specs.Stores.{level};
 ghost use Rattle.diagram.specs.Views.{view};
@@ -18,18 +17,11 @@ impl Table {
     pub(crate) fn is_from(&self, h: u32, input: u8) -> bool
         ensures { MatchBool result (From (view self.now) input h) (Unit {0}) }
     {
-        if is_constant(h) {
-            return input <= self.inputs;
-        }
-        if place_of(h) >= self.used() {
-            return false;
-        }
-        input <= self.level(h)
+        (is_constant(h) || place_of(h) < self.used()) && input <= self.level(h)
     }
 
     // What is left of a handle at an input that it tests first or not at all; under a mark the sides are turned.
-    fn cofactors<G: Algebra>(&self, algebra: &G, codes: Codes, h: u32, input: u8) -> Sides
-        requires codes { codes ≡ codes_of G.ops }
+    fn cofactors<G: Algebra>(&self, codes: &Codes<G>, h: u32, input: u8) -> Sides
         requires within { Within (view self.now) h }
         requires above { input ≤ level (view self.now) h }
         requires inside { input < (view self.now).inputs }
@@ -44,22 +36,21 @@ impl Table {
             return sides;
         }
         Sides {
-            low: self.negate(algebra, codes, sides.low),
-            high: self.negate(algebra, codes, sides.high),
+            low: self.negate(codes, sides.low),
+            high: self.negate(codes, sides.high),
         }
     }
 
     // Two handles, not both constants, split at the input that either tests first.
-    pub(crate) fn cut<G: Algebra>(&self, algebra: &G, codes: Codes, x: u32, y: u32) -> Row
-        requires codes { codes ≡ codes_of G.ops }
+    pub(crate) fn cut<G: Algebra>(&self, codes: &Codes<G>, x: u32, y: u32) -> Row
         requires x { Within (view self.now) x }
         requires y { Within (view self.now) y }
         requires places { x < 16 → y < 16 → ⊥ }
         ensures { Cut G.ops (view self.now) x y result }
     {
         let input = self.level(x).min(self.level(y));
-        let first = self.cofactors(algebra, codes, x, input);
-        let second = self.cofactors(algebra, codes, y, input);
+        let first = self.cofactors(codes, x, input);
+        let second = self.cofactors(codes, y, input);
         Row {
             input,
             low: first.low,

@@ -1,4 +1,5 @@
-ghost use Rattle.std.specs.Prelude.{◌≡◌, ◌^◌, min, ◌&&◌, IfOk};
+ghost use Rattle.std.specs.Prelude.{◌≡◌, ◌<◌, ◌-◌, ◌^◌, min, IfOk};
+ghost use Rattle.memo.specs.Buckets.{bucket_of};
 ghost use Rattle.memo.specs.Memos.{NoPairs};
 ghost use Rattle.memo.specs.Recalls.{recalled, row_count};
 
@@ -10,36 +11,29 @@ use std::alloc::{AllocError, Global};
 // The most bits of a row's number.
 const MOST_BITS: u8 = 22;
 
-// A row that was never written: no epoch is 0.
-const BLANK: Row = Row {
-    x: 0,
-    y: 0,
-    h: 0,
-    epoch: 0,
-    op: 0,
-};
-
 impl RowMemo {
     // A memo of 2 ^ `bits` rows, at most 2 ^ 22, with no pair.
     pub fn new(heap: Global, bits: u8) -> Result<RowMemo, AllocError>
         ensures { IfOk result (λ m. (row_count m ≡ 2 ^ min bits 22) × NoPairs (recalled m)) }
     {
         let count = 1usize << bits.min(MOST_BITS);
-        let rows = vec![in heap; BLANK; count]?;
-        Ok(RowMemo {
-            rows,
-            mask: count - 1,
-            epoch: 1,
-        })
+        let rows = vec![in heap; Row::default(); count]?;
+        Ok(RowMemo { rows, epoch: 1 })
+    }
+
+    // The number of a key's row.
+    fn row_of(&self, op: u8, x: u32, y: u32) -> usize
+        ensures value { result ≡ bucket_of (row_count self.now - 1) op x y }
+        ensures within { result < row_count self.now }
+    {
+        bucket(self.rows.len() - 1, op, x, y)
     }
 
     // Forgets what every row holds, and begins the epochs anew.
     fn sweep(&mut self)
         ensures { NoPairs (recalled self.new) }
     {
-        for i in 0..self.rows.len() {
-            self.rows[i] = BLANK;
-        }
+        self.rows.fill(Row::default());
         self.epoch = 1;
     }
 }
@@ -48,7 +42,7 @@ impl Memo for RowMemo {
     ghost recalls = { recalled };
 
     fn get(&self, op: u8, x: u32, y: u32) -> Option<u32> {
-        let row = self.rows[bucket(self.mask, op, x, y)];
+        let row = self.rows[self.row_of(op, x, y)];
         if row.epoch == self.epoch && row.op == op && row.x == x && row.y == y {
             Some(row.h)
         } else {
@@ -57,7 +51,7 @@ impl Memo for RowMemo {
     }
 
     fn put(&mut self, op: u8, x: u32, y: u32, h: u32) {
-        let i = bucket(self.mask, op, x, y);
+        let i = self.row_of(op, x, y);
         self.rows[i] = Row {
             x,
             y,

@@ -1,5 +1,5 @@
 use Rattle.std.proofs.Common.{◌≡◌, not, refl, ap, ◌∙◌, arith}
-use Rattle.diagram.specs.Codes.{mask_below}
+use Rattle.records.specs.Supports.{mask_below}
 use Rattle.records.specs.Rules.{settled_code, firm_code}
 use Rattle.diagram.proofs.Passes.{mask_more}
 use Rattle.diagram.proofs.codes.Codes.of.Goals as goal
@@ -16,10 +16,11 @@ loop-v-preserved g c =
       mask_more (firm_code o) v c.loop-v.firm c.with-firm.result c.is_firm_code.result c.loop-v.invariant.1 c.is_firm_code.ensures c.with-firm.ensures,
     )
 
-pub returns : goal.returns
-returns g c =
+pub invariant_of-result : goal.invariant_of-result
+invariant_of-result g c =
     let o = g.G.Algebra.ops in
     let last : c.loop-v.v ≡ 16 = omega arith in
-    let a = c.loop-v.invariant.0 ∙ ap (mask_below (λ v. not (settled_code o v))) last in
-    let b = c.loop-v.invariant.1 ∙ ap (mask_below (firm_code o)) last in
-    cc (a, b)
+    record {
+      loose_is = c.loop-v.invariant.0 ∙ ap (mask_below (λ v. not (settled_code o v))) last;
+      firm_is = c.loop-v.invariant.1 ∙ ap (mask_below (firm_code o)) last;
+    }

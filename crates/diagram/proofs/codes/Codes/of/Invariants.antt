@@ -1,5 +1,5 @@
 use Rattle.std.proofs.Common.{◌≡◌, not}
-use Rattle.diagram.specs.Codes.{mask_below}
+use Rattle.records.specs.Supports.{mask_below}
 use Rattle.records.specs.Rules.{settled_code, firm_code}
 use Rattle.diagram.proofs.codes.Codes.of.Given as goal
 

@@ -1,22 +1,32 @@
-use Rattle.std.proofs.Common.{refl, ◌∙◌, subst, inr}
-use Rattle.records.specs.Steps.{Back}
+use Rattle.std.proofs.Common.{Ok, Err, ◌∙◌, subst, arith}
+use Rattle.diagram.specs.Tasks.{number_of}
 use Rattle.diagram.specs.Views.{view, room}
-use Rattle.records.specs.Walks.{combined}
+use Rattle.records.specs.Walks.{combined, WalkShape, WalkMeans}
 use Rattle.records.proofs.Shapes.{well}
-use Rattle.diagram.proofs.Fulls.{overfull, back_again}
+use Rattle.diagram.proofs.Fulls.{settled_shape, settled_means}
 use Rattle.diagram.proofs.table.Table.apply.Goals as goal
 
-pub returns-in-Err : goal.returns-in-Err
-returns-in-Err g c =
+pub settle-requires : goal.settle-requires
+settle-requires g c = omega (arith, c.used-used.ensures, c.walk-made.ensures.grows.more)
+
+pub returns : goal.returns
+returns g c =
     let o = g.G.Algebra.ops in
     let s = view c.args.self.now in
-    let t = view c.walk.new.table in
-    let walked = c.in-Err.ensures in
-    let back = subst (λ n. Back t n (view c.cut_back.new.self)) c.used-used.ensures c.cut_back.ensures.back in
+    let t = view c.walk-made.new.table in
+    let Q = g.M.Memo.recalls c.walk-made.new.memo in
+    let x = c.args.task.x in
+    let y = c.args.task.y in
+    let f = combined o s (number_of c.args.task.operation) x y in
+    let walked = c.walk-made.ensures in
     record {
-      shape = inr (record { passed = refl; full = refl; table = back_again walked.grows back; memo = c.cut_back.ensures.memo });
+      shape = settled_shape s t _ _ Q _ c.used-used.result c.walk-made.result _ c.used-used.ensures walked.grows
+          (λ h e. (subst (WalkShape s t x y) e walked.shape).within)
+          c.settle.ensures.outcome;
       meaning = λ sound pairs lx ly.
-          overfull g.G.Algebra.laws (well c.args.self.now.well) (well c.walk.new.table.well) walked.grows (room c.args.self.now)
-          (combined o s c.args.op c.args.x c.args.y) (walked.meaning sound pairs lx ly);
-      room = c.cut_back.ensures.room ∙ walked.room;
+          settled_means g.G.Algebra.laws (well c.args.self.now.well) (well c.walk-made.new.table.well) (room c.args.self.now) _ Q _ f c.used-used.result c.walk-made.result _ walked.grows
+          (λ h e. subst (WalkMeans o (room c.args.self.now) s t Q f) e (walked.meaning sound pairs lx ly))
+          (λ h e. subst (WalkMeans o (room c.args.self.now) s t Q f) e (walked.meaning sound pairs lx ly))
+          c.settle.ensures.outcome;
+      room = c.settle.ensures.room ∙ walked.room;
     }

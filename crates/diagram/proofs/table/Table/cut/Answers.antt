@@ -7,13 +7,13 @@ pub cofactors-first-requires : goal.cofactors-first-requires
 cofactors-first-requires g c =
     let m = c.min-input.ensures in
     let inside = cut_inside (well c.args.self.now.well) c.args.x c.args.y c.requires.x c.requires.y c.requires.places in
-    record { codes = c.requires.codes; within = c.requires.x; above = omega arith; inside = omega arith }
+    record { within = c.requires.x; above = omega arith; inside = omega arith }
 
 pub cofactors-second-requires : goal.cofactors-second-requires
 cofactors-second-requires g c =
     let m = c.min-input.ensures in
     let inside = cut_inside (well c.args.self.now.well) c.args.x c.args.y c.requires.x c.requires.y c.requires.places in
-    record { codes = c.requires.codes; within = c.requires.y; above = omega arith; inside = omega arith }
+    record { within = c.requires.y; above = omega arith; inside = omega arith }
 
 pub returns : goal.returns
 returns g c =

@@ -1,7 +1,7 @@
-use Rattle.std.proofs.Common.{sym, ◌∙◌}
+use Rattle.std.proofs.Common.{sym, ap, ◌∙◌}
 use Rattle.std.proofs.lemmas.Bool.{ltb-false}
+use Rattle.records.specs.Rules.{may_mark}
 use Rattle.diagram.specs.Views.{view}
-use Rattle.diagram.proofs.Passes.{told_may_mark}
 use Rattle.records.proofs.Negates.{negate_flips, negate_stays}
 use Rattle.diagram.proofs.table.Table.negate.Goals as goal
 
@@ -11,7 +11,7 @@ returns-then-may_mark g c =
     let s = view c.args.self.now in
     let h = c.args.h in
     let large = ltb-false h 16 (sym c.is_constant.ensures ∙ c.if-is_constant.false) in
-    let test = told_may_mark o c.args.codes s h c.place_of.result c.record_at.result c.may_mark.result c.requires.codes c.place_of.ensures c.record_at.ensures c.may_mark.ensures in
+    let test = c.may_mark.ensures ∙ ap (λ r. may_mark o r.reach) (c.record_at.ensures ∙ ap s.at c.place_of.ensures) in
     c.flip.ensures ∙ sym (negate_flips o s h large (sym test ∙ c.if-may_mark.true))
 
 pub returns-else-may_mark : goal.returns-else-may_mark
@@ -20,5 +20,5 @@ returns-else-may_mark g c =
     let s = view c.args.self.now in
     let h = c.args.h in
     let large = ltb-false h 16 (sym c.is_constant.ensures ∙ c.if-is_constant.false) in
-    let test = told_may_mark o c.args.codes s h c.place_of.result c.record_at.result c.may_mark.result c.requires.codes c.place_of.ensures c.record_at.ensures c.may_mark.ensures in
+    let test = c.may_mark.ensures ∙ ap (λ r. may_mark o r.reach) (c.record_at.ensures ∙ ap s.at c.place_of.ensures) in
     sym (negate_stays o s h large (sym test ∙ c.if-may_mark.false))

@@ -1,5 +1,4 @@
-use Rattle.std.proofs.Common.{◌≡◌, true, Ok, sym, ap, ◌∙◌}
-use Rattle.records.specs.Rules.{lawful}
+use Rattle.std.proofs.Common.{Ok, ap}
 use Rattle.diagram.specs.Views.{view}
 use Rattle.records.proofs.Shapes.{well}
 use Rattle.records.proofs.Lookups.{reach_decides}
@@ -10,7 +9,7 @@ returns g c =
     let s = view c.args.self.now in
     let o = g.G.Algebra.ops in
     let h = c.args.h in
-    let l : lawful o s h ≡ true = sym c.is_lawful.ensures ∙ c.if-not-is_lawful.false in
+    let l = c.in_ok-check_lawful.ensures in
     record {
       mask = rw l (ap Ok c.reach_of.ensures);
       meaning = λ sound v. reach_decides g.G.Algebra.laws (well c.args.self.now.well) sound h _ v l c.reach_of.ensures;

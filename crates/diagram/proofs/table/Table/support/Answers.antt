@@ -1,4 +1,4 @@
-use Rattle.std.proofs.Common.{◌≡◌, true, ltb, length, None, Ok, sym, ap, ◌∙◌, arith}
+use Rattle.std.proofs.Common.{◌≡◌, ◌<◌, true, ltb, length, None, Ok, sym, refl, ap, ◌∙◌, arith}
 use Rattle.std.proofs.lemmas.Bool.{lt-ltb, false≢true}
 use Rattle.records.specs.declared.fault.TableFault.TheVariants.{FewRows, NoSuchHandle}
 use Rattle.records.specs.Rules.{lawful}
@@ -8,7 +8,7 @@ use Rattle.records.specs.Supports.{support_of}
 use Rattle.diagram.specs.Views.{view}
 use Rattle.records.proofs.Shapes.{well}
 use Rattle.records.proofs.Values.{lawful_within}
-use Rattle.records.proofs.Matter.{done_cleared, support_is}
+use Rattle.records.proofs.Matter.{no_row, done_cleared, support_is}
 use Rattle.records.proofs.Lookups.{passed}
 use Rattle.diagram.proofs.table.Table.support.Goals as goal
 
@@ -17,11 +17,13 @@ collect-requires g c =
     let o = g.G.Algebra.ops in
     let s = view c.args.self.now in
     let h = c.args.h in
-    let l : lawful o s h ≡ true = sym c.is_lawful.ensures ∙ c.if-not-is_lawful.false in
+    let l = c.in_ok-check_lawful.ensures in
     record {
       within = lawful_within o s h l;
-      enough = omega (arith, c.clear.auto.rows);
-      done = done_cleared s 0 c.clear.new.rows c.clear.ensures;
+      enough = omega (arith, c.fill.ensures.len);
+      done = done_cleared s 0 c.fill.new.self (λ k l.
+          let less : k < length c.args.rows.now = omega (arith, c.fill.ensures.len) in
+          ap (λ x. x.low) (c.fill.ensures.clones k no_row less refl) ∙ c.default.ensures.1.0);
     }
 
 pub returns : goal.returns
@@ -30,8 +32,8 @@ returns g c =
     let s = view c.args.self.now in
     let h = c.args.h in
     let n = length c.args.rows.now in
-    let l : lawful o s h ≡ true = sym c.is_lawful.ensures ∙ c.if-not-is_lawful.false in
-    let enough : ltb s.inputs n ≡ true = lt-ltb s.inputs n (omega arith) in
+    let l = c.in_ok-check_lawful.ensures in
+    let enough : ltb s.inputs n ≡ true = lt-ltb s.inputs n c.in_ok-check_rows.ensures in
     let passes : support_refusal o s n h ≡ None = passed (ltb s.inputs n) FewRows (test (lawful o s h) NoSuchHandle None) enough ∙ passed (lawful o s h) NoSuchHandle None l in
     record {
       refusal = sym passes;

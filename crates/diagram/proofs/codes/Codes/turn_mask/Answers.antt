@@ -2,7 +2,7 @@ use Rattle.std.proofs.Common.{◌≡◌, ◌^◌, cond, refl, ap, ◌∙◌, ari
 use lib.Bits.{bit_or}
 use Rattle.records.specs.Marks.{turn_below}
 use Rattle.diagram.proofs.Passes.{turn_more}
-use Rattle.diagram.proofs.codes.masks.turn_mask.Goals as goal
+use Rattle.diagram.proofs.codes.Codes.turn_mask.Goals as goal
 
 pub loop-v-init : goal.loop-v-init
 unfolding turn_below
