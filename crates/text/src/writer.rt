@@ -1,10 +1,18 @@
-ghost use Rattle.std.specs.Prelude.{◌≡◌, ◌+◌, ◌<◌, ◌≤◌, length, Decides, MatchOption};
+ghost use Rattle.std.specs.Prelude.{◌≡◌, ◌+◌, ◌<◌, ◌≤◌, map, length, Decides, MatchOption};
+ghost use Rattle.netlist.specs.declared.finding.Finding.{Finding as Findings};
 ghost use Rattle.netlist.specs.Signals.{bit};
 ghost use Rattle.text.specs.Reports.{summary_word, summary_row, bits, difference, finding_row, findings_text, finding_size, findings_size, fault_row, Written, Unwritten};
 
 use crate::field::{number_bytes, operand_bytes};
 use algebra::Algebra;
 use netlist::{Difference, Finding};
+
+pub trait HasFinding {
+    ghost of: { Self → Findings };
+
+    fn finding(&self) -> Finding
+        ensures { result ≡ of self.now };
+}
 
 // The word in the first row of a report: what its second number counts.
 #[derive(Clone, Copy, PartialEq, Eq, Debug)]
@@ -122,16 +130,15 @@ fn size_of_row(width: u8, finding: Finding) -> usize
 }
 
 // Whether the rows of the findings fit so many bytes.
-fn rows_fit(room: usize, width: u8, findings: &[Finding]) -> bool
-    ensures { Decides result (findings_size width findings.now ≤ room) }
+fn rows_fit<F: HasFinding>(room: usize, width: u8, findings: &[F]) -> bool
+    ensures { Decides result (findings_size width (map F.of findings.now) ≤ room) }
 {
     let mut left = room;
-    for finding in findings {
-        let size = size_of_row(width, *finding);
-        if size > left {
+    for row in findings {
+        let Some(rest) = left.checked_sub(size_of_row(width, row.finding())) else {
             return false;
-        }
-        left -= size;
+        };
+        left = rest;
     }
     true
 }
@@ -176,16 +183,16 @@ fn put_finding<G: Algebra>(
 
 // A row for each finding, numbered from 0: "    0 0" of a clean pair, else "    0 1 Z 0 00", and a line feed. The grade's
 // and the values' letters are the algebra's, and the pattern has `width` bits.
-pub fn write_findings<G: Algebra>(
+pub fn write_findings<G: Algebra, F: HasFinding>(
     algebra: &G,
     out: &mut [u8],
     at: usize,
     width: u8,
-    findings: &[Finding],
+    findings: &[F],
 ) -> Option<usize>
     ensures { MatchOption result
-        (Unwritten (findings_text G.Algebra.ops.letter width 0 findings.now) at out.old out.new)
-        (Written (findings_text G.Algebra.ops.letter width 0 findings.now) at out.old out.new) }
+        (Unwritten (findings_text G.Algebra.ops.letter width 0 (map F.of findings.now)) at out.old out.new)
+        (Written (findings_text G.Algebra.ops.letter width 0 (map F.of findings.now)) at out.old out.new) }
 {
     if at > out.len() {
         return None;
@@ -194,8 +201,8 @@ pub fn write_findings<G: Algebra>(
         return None;
     }
     let mut end = at;
-    for (number, finding) in findings.iter().enumerate() {
-        end = put_finding(algebra, out, end, width, number, *finding);
+    for (number, row) in findings.iter().enumerate() {
+        end = put_finding(algebra, out, end, width, number, row.finding());
     }
     Some(end)
 }
