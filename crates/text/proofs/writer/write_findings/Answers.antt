@@ -1,6 +1,6 @@
-use Rattle.std.proofs.Common.{refl, map, ap, subst, arith, take_all}
+use Rattle.std.proofs.Common.{refl, map, ap, arith, take_all}
 use Rattle.std.proofs.lemmas.Bool.Decides.{not_from_Decides}
-use Rattle.text.specs.Reports.{finding_row, finding_size, findings_text, Written}
+use Rattle.text.specs.Reports.{finding_row, finding_size, findings_text}
 use Rattle.text.proofs.Writing.{written_as}
 use Rattle.text.proofs.Found.{findings_sized, size_more, no_findings, next_row}
 use Rattle.text.proofs.writer.write_findings.Goals as goal
