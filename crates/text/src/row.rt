@@ -65,7 +65,7 @@ pub(crate) fn read_line(bytes: &[u8], at: usize, due: u32) -> Result<Line, RowFa
         return Err(RowFault::OutOfTurn);
     }
     Ok(Line {
-        kind: kind.number(),
+        kind: u8::from(kind),
         first,
         second,
     })

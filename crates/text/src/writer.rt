@@ -1,18 +1,10 @@
 ghost use Rattle.std.specs.Prelude.{◌≡◌, ◌+◌, ◌<◌, ◌≤◌, map, length, Decides, MatchOption};
-ghost use Rattle.netlist.specs.declared.finding.Finding.{Finding as Findings};
 ghost use Rattle.netlist.specs.Signals.{bit};
 ghost use Rattle.text.specs.Reports.{summary_word, summary_row, bits, difference, finding_row, findings_text, finding_size, findings_size, fault_row, Written, Unwritten};
 
 use crate::field::{number_bytes, operand_bytes};
 use algebra::Algebra;
-use netlist::{Difference, Finding};
-
-pub trait HasFinding {
-    ghost of: { Self → Findings };
-
-    fn finding(&self) -> Finding
-        ensures { result ≡ of self.now };
-}
+use netlist::{Difference, Finding, HasFinding};
 
 // The word in the first row of a report: what its second number counts.
 #[derive(Clone, Copy, PartialEq, Eq, Debug)]

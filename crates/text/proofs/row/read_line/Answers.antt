@@ -61,6 +61,6 @@ returns c =
     let n = MatchOption-at_some _ _ _ c.in_ok-number.ensures.ok_part c.read_number.ensures in
     let a = MatchOption-at_some _ _ _ c.in_ok-first.ensures.ok_part c.read_operand.ensures in
     let b = MatchOption-at_some _ _ _ c.in_ok-second.ensures.ok_part c.read_second.ensures in
-    line_done c.args.due c.in_ok-number.number kind c.number.result c.in_ok-first.first c.in_ok-second.second _ c.number.ensures c.if-number-due.false
+    line_done c.args.due c.in_ok-number.number kind c.from.result c.in_ok-first.first c.in_ok-second.second _ c.from.ensures c.if-number-due.false
     (readable_from kind c.in_ok-first.first c.in_ok-second.second (number_below c.in_ok-kind.kind) a.0 b.0 b.1)
     (is_line c.args.due row _ f.0 f.1 c.in_ok-number.number kind c.in_ok-first.first c.in_ok-second.second k n.1 a.1 b.2)
