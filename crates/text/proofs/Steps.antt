@@ -1,7 +1,10 @@
--- What a `?` after `ok_or` or `map_err` passes on. Assumes nothing.
-use Rattle.std.proofs.Common.{◌≡◌, Some, None, Option, Ok, Err, Result, sym, refl, ap, subst, MatchOption, MatchResult}
+-- What a `?` after `ok_or` or `map_err` passes on, and what bytes are where `!=` is false. Assumes nothing.
+use Rattle.std.proofs.Common.{◌≡◌, ℕ, Bool, true, false, not, List, Some, None, Option, Ok, Err, Result, sym, refl, ap, ◌∙◌, subst, MatchOption, MatchResult}
+use Rattle.std.proofs.lemmas.Bool.Decides.{Decides-eqb}
+use Rattle.std.proofs.lemmas.Slice.Eq.{slice_eq-Decides}
 use Rattle.std.specs.Option.{ok_or}
 use Rattle.std.specs.Result.{IsErrAnd}
+use Rattle.std.specs.Str.{bytes_eq}
 
 pub none_is : {A N : Type 0} (S : A → Type 0) (o : Option A) → o ≡ None → N → MatchOption o N S
 none_is S None e n = n
@@ -22,3 +25,10 @@ mapped_ok D (Err e) x m = absurd m
 pub mapped_err : {A E D : Type 0} (Q : E → D → Type 0) (r : Result A E) (d : D) → MatchResult r (λ y. ◌≡◌ {A = Result A D} (Err d) (Ok y)) (λ e. Q e d) → (e : E) × (r ≡ Err e) × Q e d
 mapped_err Q (Ok y) d m = absurd (cc)
 mapped_err Q (Err e) d m = (e, refl, m)
+
+not_false : (b : Bool) → not b ≡ false → b ≡ true
+not_false true e = refl
+not_false false e = absurd (cc)
+
+pub not_unlike : (xs ys : List ℕ) (r : Bool) → r ≡ not (bytes_eq xs ys) → r ≡ false → xs ≡ ys
+not_unlike xs ys r e f = (slice_eq-Decides Decides-eqb xs ys (bytes_eq xs ys) refl).0 (not_false (bytes_eq xs ys) (sym e ∙ f))

@@ -4,7 +4,7 @@ ghost use Rattle.text.specs.Faults.{FirstFailed};
 ghost use Rattle.text.specs.Netlists.{Readable, line_row, LineTest, HeadRow, HeadTest, Allowed};
 
 use crate::fault::RowFault;
-use crate::field::{read_kind, read_number, read_operand, read_second, same};
+use crate::field::{read_kind, read_number, read_second};
 use crate::header::Header;
 use netlist::Line;
 
@@ -33,12 +33,12 @@ pub(crate) fn read_head(bytes: &[u8], at: usize) -> Result<Header, RowFault>
         (FirstFailed (HeadTest (row_at bytes.now at))) }
 {
     let row = row_at(bytes, at).ok_or(RowFault::Incomplete)?;
-    if !same(&row[6..12], b"HEAD  ") {
+    if &row[6..12] != b"HEAD  ".as_slice() {
         return Err(RowFault::Word);
     }
-    let lines = read_number(&row[0..5]).ok_or(RowFault::Field)?;
-    let inputs = read_operand(&row[12..18]).ok_or(RowFault::Field)?;
-    let values = read_operand(&row[18..24]).ok_or(RowFault::Field)?;
+    let lines = read_number::<5>(&row[0..5]).ok_or(RowFault::Field)?;
+    let inputs = read_number::<6>(&row[12..18]).ok_or(RowFault::Field)?;
+    let values = read_number::<6>(&row[18..24]).ok_or(RowFault::Field)?;
     if !allowed(inputs, values) {
         return Err(RowFault::Limits);
     }
@@ -58,8 +58,8 @@ pub(crate) fn read_line(bytes: &[u8], at: usize, due: u32) -> Result<Line, RowFa
 {
     let row = row_at(bytes, at).ok_or(RowFault::Incomplete)?;
     let kind = read_kind(&row[6..12]).ok_or(RowFault::Word)?;
-    let number = read_number(&row[0..5]).ok_or(RowFault::Field)?;
-    let first = read_operand(&row[12..18]).ok_or(RowFault::Field)?;
+    let number = read_number::<5>(&row[0..5]).ok_or(RowFault::Field)?;
+    let first = read_number::<6>(&row[12..18]).ok_or(RowFault::Field)?;
     let second = read_second(kind, &row[18..24]).ok_or(RowFault::Field)?;
     if number != due {
         return Err(RowFault::OutOfTurn);

@@ -2,7 +2,7 @@ ghost use Rattle.std.specs.Prelude.{◌≡◌, ◌+◌, ◌<◌, ◌≤◌, map,
 ghost use Rattle.netlist.specs.Signals.{bit};
 ghost use Rattle.text.specs.Reports.{summary_word, summary_row, bits, difference, finding_row, findings_text, finding_size, findings_size, fault_row, Written, Unwritten};
 
-use crate::field::{number_bytes, operand_bytes};
+use crate::field::{columns, operand_bytes};
 use algebra::Algebra;
 use netlist::{Difference, Finding, HasFinding};
 
@@ -58,7 +58,7 @@ pub fn write_summary(
     if !has_room(out.len(), at, 19) {
         return None;
     }
-    let spaced = put(out, at, &number_bytes(pairs as u64));
+    let spaced = put(out, at, &columns::<5>(pairs as u64));
     let worded = put(out, spaced, b" ");
     let counted = put(out, worded, &word.word());
     let ended = put(out, counted, &operand_bytes(Some(number)));
@@ -80,7 +80,7 @@ pub fn write_fault(
     if !has_room(out.len(), at, 25) {
         return None;
     }
-    let spaced = put(out, at, &number_bytes(number as u64));
+    let spaced = put(out, at, &columns::<5>(number as u64));
     let worded = put(out, spaced, b" FAULT ");
     let first = put(out, worded, &operand_bytes(Some(netlist as u32)));
     let ended = put(out, first, &operand_bytes(line));
@@ -166,7 +166,7 @@ fn put_finding<G: Algebra>(
     requires { at + finding_size width finding ≤ length out.old }
     ensures { Written (finding_row G.Algebra.ops.letter width number finding) at out.old out.new result }
 {
-    let spaced = put(out, at, &number_bytes(number as u64));
+    let spaced = put(out, at, &columns::<5>(number as u64));
     match finding {
         Finding::Clean => put(out, spaced, &[b' ', algebra.letter(0), b'\n']),
         Finding::Differs(d) => put_difference(algebra, out, spaced, width, d),

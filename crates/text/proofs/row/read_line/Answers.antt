@@ -25,7 +25,7 @@ returns-in_err-first c =
     let row = c.in_ok-row.row.now in
     let f = MatchOption-at_some _ _ c.in_ok-row.row c.in_ok-row.ensures.ok_part c.row_at.ensures in
     let k = MatchOption-at_some _ _ _ c.in_ok-kind.ensures.ok_part c.read_kind.ensures in
-    missing _ _ _ _ Field _ _ c.in_err-first.ensures.value c.from_residual-in_err-first.ensures.1 c.read_operand.ensures
+    missing _ _ _ _ Field _ _ c.in_err-first.ensures.value c.from_residual-in_err-first.ensures.1 c.read_number-2.ensures
     (λ n. line_fails_field c.args.due row _ f.0 f.1 (kind_number c.in_ok-kind.kind) (number_below c.in_ok-kind.kind) k (no_first row n))
 
 pub returns-in_err-second : goal.returns-in_err-second
@@ -44,7 +44,7 @@ returns-then-number-due c =
     let kind = kind_number c.in_ok-kind.kind in
     let k = MatchOption-at_some _ _ _ c.in_ok-kind.ensures.ok_part c.read_kind.ensures in
     let n = MatchOption-at_some _ _ _ c.in_ok-number.ensures.ok_part c.read_number.ensures in
-    let a = MatchOption-at_some _ _ _ c.in_ok-first.ensures.ok_part c.read_operand.ensures in
+    let a = MatchOption-at_some _ _ _ c.in_ok-first.ensures.ok_part c.read_number-2.ensures in
     let b = MatchOption-at_some _ _ _ c.in_ok-second.ensures.ok_part c.read_second.ensures in
     line_fails_turn c.args.due row _ f.0 f.1 c.in_ok-number.number
     (record { kind = kind; first = c.in_ok-first.first; second = c.in_ok-second.second }) n.0
@@ -59,7 +59,7 @@ returns c =
     let kind = kind_number c.in_ok-kind.kind in
     let k = MatchOption-at_some _ _ _ c.in_ok-kind.ensures.ok_part c.read_kind.ensures in
     let n = MatchOption-at_some _ _ _ c.in_ok-number.ensures.ok_part c.read_number.ensures in
-    let a = MatchOption-at_some _ _ _ c.in_ok-first.ensures.ok_part c.read_operand.ensures in
+    let a = MatchOption-at_some _ _ _ c.in_ok-first.ensures.ok_part c.read_number-2.ensures in
     let b = MatchOption-at_some _ _ _ c.in_ok-second.ensures.ok_part c.read_second.ensures in
     line_done c.args.due c.in_ok-number.number kind c.from.result c.in_ok-first.first c.in_ok-second.second _ c.from.ensures c.if-number-due.false
     (readable_from kind c.in_ok-first.first c.in_ok-second.second (number_below c.in_ok-kind.kind) a.0 b.0 b.1)

@@ -13,7 +13,7 @@ returns-then-not-has_room c =
 pub returns : goal.returns
 returns c =
     written_as _ _ c.args.at c.args.out.now c.put.new.out c.put.result
-    (fault_is c.number_bytes.result c.operand_bytes.result c.operand_bytes-2.result c.args.number c.args.netlist c.args.line c.number_bytes.ensures c.operand_bytes.ensures c.operand_bytes-2.ensures)
+    (fault_is c.columns.result c.operand_bytes.result c.operand_bytes-2.result c.args.number c.args.netlist c.args.line c.columns.ensures c.operand_bytes.ensures c.operand_bytes-2.ensures)
     (written_more _ c.args.at _ _ _ c.put-spaced.ensures _ _ _
     (written_more _ _ _ _ _ c.put-worded.ensures _ _ _
     (written_more _ _ _ _ _ c.put-first.ensures _ _ _

@@ -13,7 +13,7 @@ returns-then-not-has_room c =
 pub returns : goal.returns
 returns c =
     written_as _ _ c.args.at c.args.out.now c.put.new.out c.put.result
-    (summary_is c.number_bytes.result c.word.result c.operand_bytes.result c.args.pairs c.args.word c.args.number c.number_bytes.ensures c.word.ensures c.operand_bytes.ensures)
+    (summary_is c.columns.result c.word.result c.operand_bytes.result c.args.pairs c.args.word c.args.number c.columns.ensures c.word.ensures c.operand_bytes.ensures)
     (written_more _ c.args.at _ _ _ c.put-spaced.ensures _ _ _
     (written_more _ _ _ _ _ c.put-worded.ensures _ _ _
     (written_more _ _ _ _ _ c.put-counted.ensures _ _ _
