@@ -1,6 +1,7 @@
 -- The rows of reports: their sizes, and a row from its parts. Assumes nothing.
-use Rattle.std.proofs.Common.{◌≡◌, ℕ, suc, ◌+◌, ◌*◌, ◌/◌, ◌%◌, ◌^◌, ◌<◌, ◌≤◌, List, [], ◌∷◌, ◌++◌, map, length, get_or, take, drop, set, Some, codes, Option, sym, refl, ap, ◌∙◌, subst, append_assoc, append-nil, arith, pow_mono}
+use Rattle.std.proofs.Common.{◌≡◌, ℕ, suc, ◌+◌, ◌/◌, ◌^◌, ◌<◌, ◌≤◌, List, [], ◌∷◌, ◌++◌, map, length, get_or, take, drop, set, Some, None, codes, Option, sym, refl, ap, ◌∙◌, subst, append_assoc, append-nil, arith, pow_mono}
 use Rattle.std.specs.List.{range_with_len}
+use Rattle.std.specs.Option.{SomeIff, unwrap_or}
 use Rattle.std.proofs.lemmas.Nat.{div_below, pow_pos}
 use Rattle.std.proofs.lemmas.List.FromFn.{length-map-range_with_len, map-range_with_len_more}
 use Rattle.std.proofs.lemmas.List.{length-append, length-map, length-take-le, map_more, at_drop_more, at_drop_all}
@@ -39,14 +40,16 @@ fault_is a b c number netlist line p q r =
     ∙ ap (λ t. number_field number ++ (32 ∷ 70 ∷ 65 ∷ 85 ∷ 76 ∷ 84 ∷ 32 ∷ (t ++ (c ++ (10 ∷ []))))) q
     ∙ ap (λ t. number_field number ++ (32 ∷ 70 ∷ 65 ∷ 85 ∷ 76 ∷ 84 ∷ 32 ∷ (operand_field (Some netlist) ++ (t ++ (10 ∷ []))))) r
 
--- a bit above the 64 of a number
-pub high_bit : (p k : ℕ) → p < 2 ^ 64 → 64 ≤ k → p / 2 ^ k % 2 ≡ 0
+-- the bits above the 64 of a number are 0
+high_bit : (p k : ℕ) → p < 2 ^ 64 → 64 ≤ k → p / 2 ^ k ≡ 0
 high_bit p k h l =
     let m : 2 ^ 64 ≤ 2 ^ k = pow_mono l in
-    let s : p < 1 * 2 ^ k = omega arith in
-    let z : p / 2 ^ k < 1 = div_below p (2 ^ k) 1 (pow_pos k) s in
-    let e : p / 2 ^ k ≡ 0 = omega arith in
-    ap (λ x. x % 2) e
+    let z : p / 2 ^ k < 1 = div_below p (2 ^ k) 1 (pow_pos k) (omega arith) in
+    omega arith
+
+pub shifted : (p k : ℕ) (o : Option ℕ) → p < 2 ^ 64 → SomeIff o (k < 64) (p / 2 ^ k) → unwrap_or o 0 ≡ p / 2 ^ k
+shifted p k (Some x) h s = s.1
+shifted p k None h s = sym (high_bit p k h (omega (arith, s)))
 
 bits_size : (width pattern : ℕ) → length (bits width pattern) ≡ width
 bits_size width pattern = length-map-range_with_len (λ i. 48 + bit width pattern i) 0 width

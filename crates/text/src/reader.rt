@@ -14,11 +14,11 @@ pub fn read_netlist(bytes: &[u8], from: usize, lines: &mut [Line]) -> Result<Hea
     if header.lines as usize > lines.len() {
         return Err(ReadFault::TooManyLines);
     }
+    // By index: of a list that a zip with `iter_mut` wrote, a proof knows no entry.
     for due in 0..header.lines {
         let at = from + ROW * (due as usize + 1);
-        lines[due as usize] = read_line(bytes, at, due).map_err(move |fault| ReadFault::AtLine(
-            due, fault,
-        ))?;
+        let line = read_line(bytes, at, due).map_err(move |fault| ReadFault::AtLine(due, fault))?;
+        lines[due as usize] = line;
     }
     Ok(header)
 }

@@ -58,7 +58,7 @@ pub fn write_summary(
     if !has_room(out.len(), at, 19) {
         return None;
     }
-    let spaced = put(out, at, &columns::<5>(pairs as u64));
+    let spaced = put(out, at, &columns::<5>(u64::from(pairs)));
     let worded = put(out, spaced, b" ");
     let counted = put(out, worded, &word.word());
     let ended = put(out, counted, &operand_bytes(Some(number)));
@@ -80,9 +80,9 @@ pub fn write_fault(
     if !has_room(out.len(), at, 25) {
         return None;
     }
-    let spaced = put(out, at, &columns::<5>(number as u64));
+    let spaced = put(out, at, &columns::<5>(u64::from(number)));
     let worded = put(out, spaced, b" FAULT ");
-    let first = put(out, worded, &operand_bytes(Some(netlist as u32)));
+    let first = put(out, worded, &operand_bytes(Some(u32::from(netlist))));
     let ended = put(out, first, &operand_bytes(line));
     Some(put(out, ended, b"\n"))
 }
@@ -94,10 +94,8 @@ fn bit_digit(width: u8, pattern: u64, input: u8) -> u8
 {
     let shift = width - 1 - input;
     // A pattern has 64 bits: those above them are 0.
-    if shift >= 64 {
-        return b'0';
-    }
-    b'0' + ((pattern >> shift) % 2) as u8
+    let bit = pattern.checked_shr(u32::from(shift)).unwrap_or(0) % 2;
+    b'0' + bit as u8
 }
 
 // Writes the bits of a pattern, input 0 first, and answers their end.
@@ -108,7 +106,7 @@ fn put_bits(out: &mut [u8], at: usize, width: u8, pattern: u64) -> usize
     for input in 0..width {
         out[at + input as usize] = bit_digit(width, pattern, input);
     }
-    at + width as usize
+    at + usize::from(width)
 }
 
 fn size_of_row(width: u8, finding: Finding) -> usize
@@ -117,7 +115,7 @@ fn size_of_row(width: u8, finding: Finding) -> usize
 {
     match finding {
         Finding::Clean => 8,
-        Finding::Differs(_) => 13 + width as usize,
+        Finding::Differs(_) => 13 + usize::from(width),
     }
 }
 
@@ -186,10 +184,8 @@ pub fn write_findings<G: Algebra, F: HasFinding>(
         (Unwritten (findings_text G.Algebra.ops.letter width 0 (map F.of findings.now)) at out.old out.new)
         (Written (findings_text G.Algebra.ops.letter width 0 (map F.of findings.now)) at out.old out.new) }
 {
-    if at > out.len() {
-        return None;
-    }
-    if !rows_fit(out.len() - at, width, findings) {
+    let room = out.len().checked_sub(at)?;
+    if !rows_fit(room, width, findings) {
         return None;
     }
     let mut end = at;

@@ -44,22 +44,22 @@ loop-due-preserved c =
     let bytes = c.args.bytes.now in
     let d = c.loop-due.due in
     let at = c.args.from + 25 * (d + 1) in
-    let l = c.in_ok-lines.field-0 in
+    let l = c.in_ok-line.line in
     let i = c.loop-due.invariant in
     let q = MatchResult-at_ok (λ l. Readable l × (row_at bytes at ≡ line_row d l)) (FirstFailed (LineTest d (row_at bytes at))) l
-    (mapped_ok _ c.read_line.result l c.in_ok-lines.ensures.cases) c.read_line.ensures in
+    (mapped_ok _ c.read_line.result l c.in_ok-line.ensures.cases) c.read_line.ensures in
     let f = line_fits bytes at d l q.0 q.1 in
     let s = length-set c.loop-due.lines d l in
     (begins_set bytes c.args.from _ _ _ c.loop-due.lines d at l (omega arith) i.0 q.0 refl q.1, omega arith, rest_set c.args.lines.now c.loop-due.lines d l i.2, omega arith)
 
-pub returns-in_err-lines : goal.returns-in_err-lines
-returns-in_err-lines c =
+pub returns-in_err-line : goal.returns-in_err-line
+returns-in_err-line c =
     let bytes = c.args.bytes.now in
     let d = c.loop-due.due in
     let at = c.args.from + 25 * (d + 1) in
     let i = c.loop-due.invariant in
-    let x = mapped_err (λ e d. d ≡ AtLine c.loop-due.due e) c.read_line.result c.in_err-lines.field-0.0 (MatchResult-weaker c.read_line.result c.in_err-lines.ensures.cases (λ y q. q) (λ e q. search rules)) in
-    let p = err_from_is_err_and c.from_residual-in_err-lines.result c.from_residual-in_err-lines.ensures.1 in
+    let x = mapped_err (λ e d. d ≡ AtLine c.loop-due.due e) c.read_line.result c.in_err-line.field-0.0 (MatchResult-weaker c.read_line.result c.in_err-line.ensures.cases (λ y q. q) (λ e q. search rules)) in
+    let p = err_from_is_err_and c.from_residual-in_err-line.result c.from_residual-in_err-line.ensures.1 in
     let h = refused_at bytes c.args.from c.args.lines.now c.loop-due.lines _ _ d x.0 p.1 (p.2 ∙ x.2)
     (record {
       count = c.in_ok-header.header.lines;
@@ -73,7 +73,7 @@ returns-in_err-lines c =
       failed = MatchResult-at_err (λ l. Readable l × (row_at bytes at ≡ line_row d l)) (FirstFailed (LineTest d (row_at bytes at))) x.0 x.1 c.read_line.ensures;
       filled = filled c.args.lines.now c.loop-due.lines d (omega arith) c.loop-due.auto.lines i.2;
     }) in
-    reads bytes c.args.from c.args.lines.now c.loop-due.lines c.from_residual-in_err-lines.result h
+    reads bytes c.args.from c.args.lines.now c.loop-due.lines c.from_residual-in_err-line.result h
 
 pub returns : goal.returns
 returns c =
