@@ -15,6 +15,7 @@ pub(crate) fn columns<const N: usize>(n: u64) -> [u8; N]
 {
     let mut field = [b' '; N];
     let mut rest = n;
+    // By index: of an array that `iter_mut().rev()` wrote, a proof knows the length alone.
     for i in (0..N).rev() {
         if rest > 0 || i + 1 == N {
             field[i] = b'0' + (rest % 10) as u8;
@@ -90,7 +91,7 @@ fn takes_one_operand(kind: Kind) -> bool
     matches!(kind, Kind::Input | Kind::Const | Kind::Not | Kind::Out)
 }
 
-// The second operand of a line: 0 where it is unused, and then a hyphen stands in its field.
+// The second operand of a line: 0 where it is unused, as lines have it, and then a hyphen stands in its field.
 pub(crate) fn read_second(kind: Kind, s: &[u8]) -> Option<u32>
     requires { length s.now ≡ 6 }
     ensures { MatchOption result

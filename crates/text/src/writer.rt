@@ -103,15 +103,15 @@ fn put_bits(out: &mut [u8], at: usize, width: u8, pattern: u64) -> usize
     requires { at + width ≤ length out.old }
     ensures { Written (bits width pattern) at out.old out.new result }
 {
+    // By index: of a part of the bytes that `iter_mut` wrote, a proof knows the length alone.
     for input in 0..width {
         out[at + input as usize] = bit_digit(width, pattern, input);
     }
-    at + usize::from(width)
+    at + width as usize
 }
 
 fn size_of_row(width: u8, finding: Finding) -> usize
-    ensures value { result ≡ finding_size width finding }
-    ensures small { result < 300 }
+    ensures { result ≡ finding_size width finding }
 {
     match finding {
         Finding::Clean => 8,

@@ -1,13 +1,13 @@
-use Rattle.std.proofs.Common.{◌≡◌, ap, ◌∙◌, refl, arith}
+use Rattle.std.proofs.Common.{◌≡◌, ap, ◌∙◌, arith}
 use Rattle.std.proofs.lemmas.Bool.{false≢true}
 use Rattle.text.specs.Reports.{finding_size}
-use Rattle.text.proofs.Found.{size_more, size_all}
+use Rattle.text.proofs.Found.{size_more}
 use Rattle.text.proofs.writer.rows_fit.Goals as goal
 
 pub returns-in_default : goal.returns-in_default
 returns-in_default g c =
     let s = size_more g.F.HasFinding.of c.args.width c.args.findings.now c.loop-row.row-index c.row-item.result c.loop-row-test.true c.row-item.is in
-    let e : c.size_of_row.result ≡ finding_size c.args.width (g.F.HasFinding.of c.row-item.result) = c.size_of_row.ensures.value ∙ ap (finding_size c.args.width) c.finding.ensures in
+    let e : c.size_of_row.result ≡ finding_size c.args.width (g.F.HasFinding.of c.row-item.result) = c.size_of_row.ensures ∙ ap (finding_size c.args.width) c.finding.ensures in
     let i = c.loop-row.invariant in
     let l = c.in_default.ensures in
     ((λ e. absurd (false≢true e)), (λ h. absurd (l (omega arith))))
@@ -15,13 +15,7 @@ returns-in_default g c =
 pub loop-row-preserved : goal.loop-row-preserved
 loop-row-preserved g c =
     let s = size_more g.F.HasFinding.of c.args.width c.args.findings.now c.loop-row.row-index c.row-item.result c.loop-row-test.true c.row-item.is in
-    let e : c.size_of_row.result ≡ finding_size c.args.width (g.F.HasFinding.of c.row-item.result) = c.size_of_row.ensures.value ∙ ap (finding_size c.args.width) c.finding.ensures in
+    let e : c.size_of_row.result ≡ finding_size c.args.width (g.F.HasFinding.of c.row-item.result) = c.size_of_row.ensures ∙ ap (finding_size c.args.width) c.finding.ensures in
     let i = c.loop-row.invariant in
     let l = c.in-Some.ensures in
     omega (arith, l.0, l.1, i, s, e)
-
-pub returns : goal.returns
-returns g c =
-    let s = size_all g.F.HasFinding.of c.args.width c.args.findings.now c.loop-row.row-index c.loop-row-test.false in
-    let i = c.loop-row.invariant in
-    ((λ e. omega (arith, s, i)), (λ h. refl))

@@ -1,6 +1,6 @@
-use Rattle.std.proofs.Common.{refl, map, ap, arith, take_all}
+use Rattle.std.proofs.Common.{refl, map, ap, arith}
 use Rattle.std.proofs.lemmas.Bool.Decides.{not_from_Decides}
-use Rattle.text.specs.Reports.{finding_row, finding_size, findings_text}
+use Rattle.text.specs.Reports.{finding_row, finding_size}
 use Rattle.text.proofs.Writing.{written_as}
 use Rattle.text.proofs.Found.{findings_sized, size_more, no_findings, next_row}
 use Rattle.text.proofs.writer.write_findings.Goals as goal
@@ -27,9 +27,3 @@ loop-number-preserved g c =
     next_row g.F.HasFinding.of c.args.width c.args.findings.now c.loop-number.number g.G.Algebra.ops.letter c.index-findings-number.result c.args.at c.loop-number.end c.put_finding-end.result
     c.args.out.now c.loop-number.out c.put_finding-end.new.out c.loop-number-test.true c.index-findings-number.is c.loop-number.invariant.0 c.loop-number.invariant.1
     (written_as _ _ _ _ _ _ (ap (finding_row g.G.Algebra.ops.letter c.args.width c.loop-number.number) c.finding.ensures) c.put_finding-end.ensures)
-
-pub returns : goal.returns
-returns g c =
-    written_as _ _ c.args.at c.args.out.now c.loop-number.out c.loop-number.end
-    (ap (λ xs. findings_text g.G.Algebra.ops.letter c.args.width 0 (map g.F.HasFinding.of xs)) (take_all c.loop-number.number c.args.findings.now c.loop-number-test.false))
-    c.loop-number.invariant.0
