@@ -11,7 +11,9 @@ mod tests {
     // The refusal of one netlist, with room for two lines.
     fn refusal(bytes: &[u8]) -> Option<u8> {
         let mut lines = [Line::default(); 2];
-        read_netlist(bytes, 0, &mut lines).err().map(|fault| fault.number())
+        read_netlist(bytes, 0, &mut lines)
+            .err()
+            .map(|fault| fault.number())
     }
 
     // The refusal of two netlists: its number, netlist and line.
@@ -89,17 +91,18 @@ mod tests {
     fn refuses_pairs(rt: HostRuntime) {
         assert!(rt; pair_refusal(b"    0 HEAD       2     5\n") == Some((11, 2, None)));
         assert!(rt;
-            pair_refusal(b"    1 HEAD       2     5\n    1 INPUT      0     -\n") == Some((14, 1, Some(0)))
+            pair_refusal(b"    1 HEAD       2     5\n    1 INPUT      0     -\n")
+                == Some((14, 1, Some(0)))
         );
         assert!(rt;
-            pair_refusal(b"    0 HEAD       2     5\n    0 HEAD       2     5\n\n") == Some((16, 0, None))
+            pair_refusal(b"    0 HEAD       2     5\n    0 HEAD       2     5\n\n")
+                == Some((16, 0, None))
         );
         assert!(rt;
-            pair_refusal(b"    0 HEAD       2     5\n    0 HEAD       2     2\n") == Some((41, 0, None))
+            pair_refusal(b"    0 HEAD       2     5\n    0 HEAD       2     2\n")
+                == Some((41, 0, None))
         );
-        assert!(rt;
-            pair_refusal(b"    0 HEAD       2     5\n    0 HEAD       2     5\n") == None
-        );
+        assert!(rt; pair_refusal(b"    0 HEAD       2     5\n    0 HEAD       2     5\n") == None);
     }
 
     #[test]
