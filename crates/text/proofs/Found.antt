@@ -1,9 +1,10 @@
 -- The rows of reports: their sizes, and a row from its parts. Assumes nothing.
-use Rattle.std.proofs.Common.{◌≡◌, ℕ, suc, ◌+◌, ◌*◌, ◌/◌, ◌%◌, ◌^◌, ◌<◌, ◌≤◌, List, [], ◌∷◌, ◌++◌, map, length, get_or, take, drop, set, Some, codes, Option, sym, refl, ap, ◌∙◌, subst, append_assoc, append-nil, arith, pow_mono}
+use Rattle.std.proofs.Common.{◌≡◌, ℕ, suc, ◌+◌, ◌/◌, ◌^◌, ◌<◌, ◌≤◌, List, [], ◌∷◌, ◌++◌, map, length, get_or, take, drop, set, Some, None, codes, Option, sym, refl, ap, ◌∙◌, subst, append_assoc, append-nil, arith, pow_mono}
 use Rattle.std.specs.List.{range_with_len}
+use Rattle.std.specs.Option.{SomeIff, unwrap_or}
 use Rattle.std.proofs.lemmas.Nat.{div_below, pow_pos}
 use Rattle.std.proofs.lemmas.List.FromFn.{length-map-range_with_len, map-range_with_len_more}
-use Rattle.std.proofs.lemmas.List.{length-append, length-take-le, take_more, at_drop_more, at_drop_all}
+use Rattle.std.proofs.lemmas.List.{length-append, length-map, length-take-le, map_more, at_drop_more, at_drop_all}
 use Rattle.netlist.specs.declared.finding.Difference.{Difference}
 use Rattle.netlist.specs.declared.finding.Finding.{Finding}
 use Rattle.netlist.specs.declared.finding.Finding.TheVariants.{Clean, Differs}
@@ -39,14 +40,16 @@ fault_is a b c number netlist line p q r =
     ∙ ap (λ t. number_field number ++ (32 ∷ 70 ∷ 65 ∷ 85 ∷ 76 ∷ 84 ∷ 32 ∷ (t ++ (c ++ (10 ∷ []))))) q
     ∙ ap (λ t. number_field number ++ (32 ∷ 70 ∷ 65 ∷ 85 ∷ 76 ∷ 84 ∷ 32 ∷ (operand_field (Some netlist) ++ (t ++ (10 ∷ []))))) r
 
--- a bit above the 64 of a number
-pub high_bit : (p k : ℕ) → p < 2 ^ 64 → 64 ≤ k → p / 2 ^ k % 2 ≡ 0
+-- the bits above the 64 of a number are 0
+high_bit : (p k : ℕ) → p < 2 ^ 64 → 64 ≤ k → p / 2 ^ k ≡ 0
 high_bit p k h l =
     let m : 2 ^ 64 ≤ 2 ^ k = pow_mono l in
-    let s : p < 1 * 2 ^ k = omega arith in
-    let z : p / 2 ^ k < 1 = div_below p (2 ^ k) 1 (pow_pos k) s in
-    let e : p / 2 ^ k ≡ 0 = omega arith in
-    ap (λ x. x % 2) e
+    let z : p / 2 ^ k < 1 = div_below p (2 ^ k) 1 (pow_pos k) (omega arith) in
+    omega arith
+
+pub shifted : (p k : ℕ) (o : Option ℕ) → p < 2 ^ 64 → SomeIff o (k < 64) (p / 2 ^ k) → unwrap_or o 0 ≡ p / 2 ^ k
+shifted p k (Some x) h s = s.1
+shifted p k None h s = sym (high_bit p k h (omega (arith, s)))
 
 bits_size : (width pattern : ℕ) → length (bits width pattern) ≡ width
 bits_size width pattern = length-map-range_with_len (λ i. 48 + bit width pattern i) 0 width
@@ -78,13 +81,6 @@ findings_push letter width m (g ∷ fs) f =
     ap (λ t. finding_row letter width m g ++ t) (findings_push letter width (suc m) fs f ∙ ap (λ k. findings_text letter width (suc m) fs ++ finding_row letter width k f) e)
     ∙ sym (append_assoc (finding_row letter width m g) (findings_text letter width (suc m) fs) (finding_row letter width (m + suc (length fs)) f))
 
-pub findings_more : (letter : ℕ → ℕ) (width : ℕ) (fs : List Finding) (i : ℕ) (d : Finding) → i < length fs
-    → findings_text letter width 0 (take i fs) ++ finding_row letter width i (get_or fs i d) ≡ findings_text letter width 0 (take (i + 1) fs)
-findings_more letter width fs i d h =
-    let k : i ≡ 0 + length (take i fs) = (let t = length-take-le i fs (omega arith) in omega arith) in
-    ap (λ j. findings_text letter width 0 (take i fs) ++ finding_row letter width j (get_or fs i d)) k
-    ∙ sym (findings_push letter width 0 (take i fs) (get_or fs i d)) ∙ ap (findings_text letter width 0) (sym (take_more fs i d h))
-
 -- and one bit
 pub bits_more : (f : ℕ → ℕ) (n at : ℕ) (x y : List ℕ) (r : ℕ) → Written (map f (range_with_len 0 n)) at x y (at + n) → r ≡ f n → at + n < length y
     → Written (map f (range_with_len 0 (n + 1))) at x (set y (at + n) r) (at + (n + 1))
@@ -93,14 +89,6 @@ bits_more f n at x y r w e h =
     let q : map f (range_with_len 0 n) ++ (r ∷ []) ≡ map f (range_with_len 0 (n + 1)) = ap (λ z. map f (range_with_len 0 n) ++ (z ∷ [])) e ∙ sym (map-range_with_len_more f 0 n n (omega arith)) in
     let k : at + n + 1 ≡ at + (n + 1) = omega arith in
     subst (Written (map f (range_with_len 0 (n + 1))) at x (set y (at + n) r)) k (written_as _ _ at x (set y (at + n) r) (at + n + 1) q v)
-
--- the rows that are left
-pub size_more : (width : ℕ) (fs : List Finding) (i : ℕ) (d : Finding) (r : ℕ) → i < length fs → r ≡ finding_size width (get_or fs i d)
-    → findings_size width (drop i fs) ≡ r + findings_size width (drop (i + 1) fs)
-size_more width fs i d r h e = at_drop_more (findings_size width) fs i d h ∙ ap (λ n. n + findings_size width (drop (i + 1) fs)) (sym e)
-
-pub size_all : (width : ℕ) (fs : List Finding) (i : ℕ) → length fs ≤ i → findings_size width (drop i fs) ≡ 0
-size_all width fs i h = at_drop_all (findings_size width) fs i h
 
 -- a finding's row from its parts
 pub clean_is : (letter : ℕ → ℕ) (width n : ℕ) (a : List ℕ) (x : ℕ) → a ≡ number_field n → x ≡ letter 0 → a ++ (32 ∷ x ∷ 10 ∷ []) ≡ finding_row letter width n Clean
@@ -133,15 +121,35 @@ pub no_findings : (letter : ℕ → ℕ) (width at : ℕ) (xs : List ℕ) → at
 unfolding findings_text
 no_findings letter width at xs h = written_none at xs h
 
--- the row of the finding i after those before it
-pub next_row : (letter : ℕ → ℕ) (width : ℕ) (fs : List Finding) (i at e f : ℕ) (x y z : List ℕ) → i < length fs
-    → Written (findings_text letter width 0 (take i fs)) at x y e → e + findings_size width (drop i fs) ≤ length y → Written (finding_row letter width i (get_or fs i Clean)) e y z f
-    → Written (findings_text letter width 0 (take (i + 1) fs)) at x z f × (f + findings_size width (drop (i + 1) fs) ≤ length z)
-next_row letter width fs i at e f x y z h w r v =
-    let s = size_more width fs i Clean (finding_size width (get_or fs i Clean)) h refl in
-    let n = finding_sized letter width i (get_or fs i Clean) in
-    let l = same_length (finding_row letter width i (get_or fs i Clean)) e y z f v in
-    let q = v.end_is in (
-      written_as _ _ at x z f (findings_more letter width fs i Clean h) (written_more (findings_text letter width 0 (take i fs)) at x y e w (finding_row letter width i (get_or fs i Clean)) z f v),
-      omega arith,
-    )
+-- the findings of things, of which x has the number i
+module _ {X : Type 0} (of : X → Finding) (width : ℕ) (xs : List X) (i : ℕ) where
+  findings_more : (letter : ℕ → ℕ) (x : X) → i < length xs → x ≡ get_or xs i x
+      → findings_text letter width 0 (map of (take i xs)) ++ finding_row letter width i (of x) ≡ findings_text letter width 0 (map of (take (i + 1) xs))
+  findings_more letter x h e =
+      let k : i ≡ 0 + length (map of (take i xs)) = (let t = length-take-le i xs (omega arith) in let m = length-map (take i xs) of in omega arith) in
+      ap (λ j. findings_text letter width 0 (map of (take i xs)) ++ finding_row letter width j (of x)) k
+      ∙ sym (findings_push letter width 0 (map of (take i xs)) (of x)) ∙ ap (λ y. findings_text letter width 0 (map of (take i xs) ++ (of y ∷ []))) e
+      ∙ ap (findings_text letter width 0) (sym (map_more of xs i x h))
+
+  -- the rows that are left
+  pub size_more : (x : X) → i < length xs → x ≡ get_or xs i x
+      → findings_size width (map of (drop i xs)) ≡ finding_size width (of x) + findings_size width (map of (drop (i + 1) xs))
+  size_more x h e =
+      at_drop_more (λ ys. findings_size width (map of ys)) xs i x h ∙ ap (λ y. finding_size width (of y) + findings_size width (map of (drop (i + 1) xs))) (sym e)
+
+  pub size_all : length xs ≤ i → findings_size width (map of (drop i xs)) ≡ 0
+  size_all h = at_drop_all (λ ys. findings_size width (map of ys)) xs i h
+
+  -- the row of x after those before it
+  pub next_row : (letter : ℕ → ℕ) (x : X) (at e f : ℕ) (s t u : List ℕ) → i < length xs → x ≡ get_or xs i x
+      → Written (findings_text letter width 0 (map of (take i xs))) at s t e → e + findings_size width (map of (drop i xs)) ≤ length t
+      → Written (finding_row letter width i (of x)) e t u f
+      → Written (findings_text letter width 0 (map of (take (i + 1) xs))) at s u f × (f + findings_size width (map of (drop (i + 1) xs)) ≤ length u)
+  next_row letter x at e f s t u h q w r v =
+      let m = size_more x h q in
+      let n = finding_sized letter width i (of x) in
+      let l = same_length (finding_row letter width i (of x)) e t u f v in
+      let z = v.end_is in (
+        written_as _ _ at s u f (findings_more letter x h q) (written_more (findings_text letter width 0 (map of (take i xs))) at s t e w (finding_row letter width i (of x)) u f v),
+        omega arith,
+      )

@@ -1,3 +1,4 @@
+pub mod Steps
 pub mod Guessing
 pub mod Words
 pub mod Framing

@@ -6,7 +6,7 @@ use Rattle.text.specs.declared.fault.RowFault.TheVariants.{Incomplete, Word, Fie
 use Rattle.text.specs.Faults.{order, FirstFailed}
 use Rattle.text.specs.Rows.{number_field, operand_field, Framed, word_of}
 use Rattle.text.specs.Netlists.{kind_word, head_word, takes_one, second_operand, Readable, line_row, head_row, LineRow, HeadRow, Allowed, LineTest, HeadTest}
-use Rattle.text.proofs.Guessing.{same_number, same_operand}
+use Rattle.text.proofs.Guessing.{same_number}
 use Rattle.text.proofs.Words.{word_length, same_kind}
 use Rattle.text.proofs.Framing.{by_fields, at_word, at_first, at_second, row_framed}
 
@@ -135,13 +135,13 @@ module _ (s : List ℕ) (n i v m j w : ℕ) (p : HeadRow s n i v) (q : HeadRow s
   rows = sym p.text ∙ q.text
 
   pub same_count : n ≡ m
-  same_count = same_number n m p.small q.small (sym (head_number n i v) ∙ ap (take 5) rows ∙ head_number m j w)
+  same_count = same_number 5 n m p.small q.small (sym (head_number n i v) ∙ ap (take 5) rows ∙ head_number m j w)
 
   pub same_inputs : i ≡ j
-  same_inputs = same_operand i j p.few q.few (sym (head_first n i v) ∙ ap (λ t. take 6 (drop 12 t)) rows ∙ head_first m j w)
+  same_inputs = same_number 6 i j p.few q.few (sym (head_first n i v) ∙ ap (λ t. take 6 (drop 12 t)) rows ∙ head_first m j w)
 
   pub same_values : v ≡ w
-  same_values = same_operand v w p.less q.less (sym (head_second n i v) ∙ ap (λ t. take 6 (drop 18 t)) rows ∙ head_second m j w)
+  same_values = same_number 6 v w p.less q.less (sym (head_second n i v) ∙ ap (λ t. take 6 (drop 18 t)) rows ∙ head_second m j w)
 
 -- how the reader of a HEAD row ends; t is the row in its place
 module _ (s t : List ℕ) (e : s ≡ t) (f : Framed s) where
@@ -181,7 +181,7 @@ module _ (due : ℕ) (s t : List ℕ) (e : s ≡ t) (f : Framed s) where
   line_fails_turn n l small r q below other =
       fails_turn (LineTest due t) (subst Framed e f) (l.kind, r.known, ap word_of q ∙ line_word n l r)
       (record { number = n; line = l; small = small; readable = r; text = q })
-      (λ p. other (same_number n due small below (sym (ap (take 5) q ∙ line_number n l r) ∙ p)))
+      (λ p. other (same_number 5 n due small below (sym (ap (take 5) q ∙ line_number n l r) ∙ p)))
 
 -- the line that was due, its kind by number
 pub line_done : (due n k k' a b : ℕ) (t : List ℕ) → k' ≡ k → n ≡ due → Readable (record { kind = k; first = a; second = b })

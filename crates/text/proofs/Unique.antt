@@ -13,7 +13,7 @@ use Rattle.text.specs.Rows.{row_at, operand_field, Framed, word_of}
 use Rattle.text.specs.Faults.{order, FirstFailed}
 use Rattle.text.specs.Netlists.{takes_one, second_operand, Readable, Allowed, line_row, head_row, HeadRow, HeadTest, LineTest, lines_text, netlist_text}
 use Rattle.text.specs.Readings.{Stands, Begins, Filled, Accepted, HeadRefused, TooMany, LineRefused, Reading, Reads}
-use Rattle.text.proofs.Guessing.{same_operand}
+use Rattle.text.proofs.Guessing.{same_number}
 use Rattle.text.proofs.Words.{same_kind}
 use Rattle.text.proofs.Tested.{line_number, line_word, line_first, line_second, line_framed, head_worded, head_framed, same_count, same_inputs, same_values}
 
@@ -59,7 +59,7 @@ unused_or : (k a b : ℕ) → a < 1000000 → b < 1000000 → (takes_one k ≡ t
     → operand_field (second_operand k a) ≡ operand_field (second_operand k b) → a ≡ b
 unused_or k a b h i u w e =
     ⊎_elim (λ t. u t ∙ sym (w t))
-    (λ f. same_operand a b h i (ap operand_field (sym (cond-false _ _ _ f)) ∙ e ∙ ap operand_field (cond-false _ _ _ f)))
+    (λ f. same_number 6 a b h i (ap operand_field (sym (cond-false _ _ _ f)) ∙ e ∙ ap operand_field (cond-false _ _ _ f)))
     (cases_Bool (takes_one k))
 
 same_fields : (l m : Line) → l.kind ≡ m.kind → l.first ≡ m.first → l.second ≡ m.second → l ≡ m
@@ -68,7 +68,7 @@ same_fields l m p q r = λ i. record { kind = p i; first = q i; second = r i }
 same_line : (n : ℕ) (l m : Line) → Readable l → Readable m → line_row n l ≡ line_row n m → l ≡ m
 same_line n l m r q e =
     let k : l.kind ≡ m.kind = same_kind l.kind m.kind r.known q.known (sym (line_word n l r) ∙ ap word_of e ∙ line_word n m q) in
-    let a : l.first ≡ m.first = same_operand l.first m.first r.first q.first (sym (line_first n l r) ∙ ap (λ t. take 6 (drop 12 t)) e ∙ line_first n m q) in
+    let a : l.first ≡ m.first = same_number 6 l.first m.first r.first q.first (sym (line_first n l r) ∙ ap (λ t. take 6 (drop 12 t)) e ∙ line_first n m q) in
     let b : l.second ≡ m.second =
     unused_or l.kind l.second m.second r.second q.second r.unused (λ t. q.unused (ap takes_one (sym k) ∙ t))
     (sym (line_second n l r) ∙ ap (λ t. take 6 (drop 18 t)) e ∙ line_second n m q ∙ ap (λ j. operand_field (second_operand j m.second)) (sym k)) in

@@ -1,23 +1,21 @@
-ghost use Rattle.std.specs.Prelude.{◌≡◌, Ok, Err, MatchResult};
-ghost use Rattle.text.specs.declared.fault.RowFault.{RowFault as RowFaults};
-ghost use Rattle.text.specs.declared.fault.ReadFault.TheVariants.{Head, AtLine};
-ghost use Rattle.text.specs.declared.fault.ReadFault.{ReadFault as ReadFaults};
-ghost use Rattle.text.specs.declared.fault.PairFault.TheVariants.{First, Second};
+ghost use Rattle.std.specs.Prelude.{◌≡◌};
+ghost use Rattle.text.specs.declared.fault.ReadFault.TheVariants.{Head};
 ghost use Rattle.text.specs.Faults.{row_fault_number, read_fault_number, read_fault_line, pair_fault_number, pair_fault_netlist, pair_fault_line};
 
-// Why a row is refused. Its tests are made in this order; a HEAD row has no turn, and a line no limits.
+// Why a row is refused, with the numbers of the refusals. Its tests are made in this order; a HEAD row has no turn, and a
+// line no limits.
 #[derive(Clone, Copy, PartialEq, Eq, Debug)]
 pub enum RowFault {
     // The row is missing or cut short, or lacks its line feed or the space of column 6.
-    Incomplete,
+    Incomplete = 11,
     // The word is no kind's name, or not HEAD where HEAD is due.
-    Word,
+    Word = 13,
     // A number or an unused operand is malformed.
-    Field,
+    Field = 12,
     // The line has not the number that is due.
-    OutOfTurn,
+    OutOfTurn = 14,
     // HEAD has over 60 inputs, or neither two nor five values.
-    Limits,
+    Limits = 15,
 }
 
 impl RowFault {
@@ -25,13 +23,7 @@ impl RowFault {
     pub fn number(self) -> u8
         ensures { result ≡ row_fault_number self }
     {
-        match self {
-            RowFault::Incomplete => 11,
-            RowFault::Word => 13,
-            RowFault::Field => 12,
-            RowFault::OutOfTurn => 14,
-            RowFault::Limits => 15,
-        }
+        self as u8
     }
 }
 
@@ -52,9 +44,8 @@ impl ReadFault {
         ensures { result ≡ read_fault_number self }
     {
         match self {
-            ReadFault::Head(fault) => fault.number(),
+            ReadFault::Head(fault) | ReadFault::AtLine(_, fault) => fault.number(),
             ReadFault::TooManyLines => 17,
-            ReadFault::AtLine(_, fault) => fault.number(),
         }
     }
 
@@ -63,8 +54,7 @@ impl ReadFault {
         ensures { result ≡ read_fault_line self }
     {
         match self {
-            ReadFault::Head(_) => None,
-            ReadFault::TooManyLines => None,
+            ReadFault::Head(_) | ReadFault::TooManyLines => None,
             ReadFault::AtLine(due, _) => Some(due),
         }
     }
@@ -76,16 +66,6 @@ impl From<RowFault> for ReadFault {
 
     fn from(fault: RowFault) -> ReadFault {
         ReadFault::Head(fault)
-    }
-}
-
-// What the row of a line came to, with the line's number at its fault.
-pub(crate) fn at_line<T>(r: Result<T, RowFault>, due: u32) -> Result<T, ReadFault>
-    ensures { MatchResult result (λ x. r ≡ Ok x) (λ e. (d : RowFaults) × (e ≡ AtLine due d) × (r ≡ Err d)) }
-{
-    match r {
-        Ok(x) => Ok(x),
-        Err(fault) => Err(ReadFault::AtLine(due, fault)),
     }
 }
 
@@ -106,22 +86,20 @@ impl PairFault {
         ensures { result ≡ pair_fault_number self }
     {
         match self {
-            PairFault::First(fault) => fault.number(),
-            PairFault::Second(fault) => fault.number(),
+            PairFault::First(fault) | PairFault::Second(fault) => fault.number(),
             PairFault::Trailing => 16,
             PairFault::Heads => 41,
         }
     }
 
-    // The netlist that is refused, 1 or 2, or 0 for neither.
+    // The netlist that is refused, 1 or 2, or 0 for neither: so the row of a refusal shows it.
     pub fn netlist(self) -> u8
         ensures { result ≡ pair_fault_netlist self }
     {
         match self {
             PairFault::First(_) => 1,
             PairFault::Second(_) => 2,
-            PairFault::Trailing => 0,
-            PairFault::Heads => 0,
+            PairFault::Trailing | PairFault::Heads => 0,
         }
     }
 
@@ -130,30 +108,8 @@ impl PairFault {
         ensures { result ≡ pair_fault_line self }
     {
         match self {
-            PairFault::First(fault) => fault.line(),
-            PairFault::Second(fault) => fault.line(),
-            PairFault::Trailing => None,
-            PairFault::Heads => None,
+            PairFault::First(fault) | PairFault::Second(fault) => fault.line(),
+            PairFault::Trailing | PairFault::Heads => None,
         }
-    }
-}
-
-// What reading the first netlist of two came to.
-pub(crate) fn in_first<T>(r: Result<T, ReadFault>) -> Result<T, PairFault>
-    ensures { MatchResult result (λ x. r ≡ Ok x) (λ e. (d : ReadFaults) × (e ≡ First d) × (r ≡ Err d)) }
-{
-    match r {
-        Ok(x) => Ok(x),
-        Err(fault) => Err(PairFault::First(fault)),
-    }
-}
-
-// What reading the second one came to.
-pub(crate) fn in_second<T>(r: Result<T, ReadFault>) -> Result<T, PairFault>
-    ensures { MatchResult result (λ x. r ≡ Ok x) (λ e. (d : ReadFaults) × (e ≡ Second d) × (r ≡ Err d)) }
-{
-    match r {
-        Ok(x) => Ok(x),
-        Err(fault) => Err(PairFault::Second(fault)),
     }
 }

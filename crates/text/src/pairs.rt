@@ -1,7 +1,7 @@
 ghost use Rattle.std.specs.Prelude.{◌≡◌, ◌+◌, ◌*◌, Decides};
 ghost use Rattle.text.specs.Pairs.{size, Alike, ReadsPair};
 
-use crate::fault::{PairFault, in_first, in_second};
+use crate::fault::PairFault;
 use crate::header::{Header, Pair};
 use crate::reader::read_netlist;
 use crate::row::ROW;
@@ -24,9 +24,9 @@ fn alike(one: Header, two: Header) -> bool
 pub fn read_pair(bytes: &[u8], first: &mut [Line], second: &mut [Line]) -> Result<Pair, PairFault>
     ensures { ReadsPair bytes.now first.old first.new second.old second.new result }
 {
-    let one = in_first(read_netlist(bytes, 0, first))?;
+    let one = read_netlist(bytes, 0, first).map_err(PairFault::First)?;
     let from = text_size(one);
-    let two = in_second(read_netlist(bytes, from, second))?;
+    let two = read_netlist(bytes, from, second).map_err(PairFault::Second)?;
     let end = from + text_size(two);
     if end < bytes.len() {
         return Err(PairFault::Trailing);

@@ -1,6 +1,6 @@
 ghost use Rattle.text.specs.Readings.{Reads};
 
-use crate::fault::{ReadFault, at_line};
+use crate::fault::ReadFault;
 use crate::header::Header;
 use crate::row::{ROW, read_head, read_line};
 use netlist::Line;
@@ -14,11 +14,11 @@ pub fn read_netlist(bytes: &[u8], from: usize, lines: &mut [Line]) -> Result<Hea
     if header.lines as usize > lines.len() {
         return Err(ReadFault::TooManyLines);
     }
-    let mut at = from + ROW;
+    // By index: of a list that a zip with `iter_mut` wrote, a proof knows no entry.
     for due in 0..header.lines {
-        let line = at_line(read_line(bytes, at, due), due)?;
+        let at = from + ROW * (due as usize + 1);
+        let line = read_line(bytes, at, due).map_err(move |fault| ReadFault::AtLine(due, fault))?;
         lines[due as usize] = line;
-        at += ROW;
     }
     Ok(header)
 }

@@ -4,7 +4,7 @@ ghost use Rattle.text.specs.Faults.{FirstFailed};
 ghost use Rattle.text.specs.Netlists.{Readable, line_row, LineTest, HeadRow, HeadTest, Allowed};
 
 use crate::fault::RowFault;
-use crate::field::{read_kind, read_number, read_operand, read_second, same};
+use crate::field::{read_kind, read_number, read_second};
 use crate::header::Header;
 use netlist::Line;
 
@@ -15,17 +15,8 @@ pub(crate) const ROW: usize = 25;
 fn row_at(bytes: &[u8], at: usize) -> Option<&[u8]>
     ensures { MatchOption result (Framed (row_at bytes.now at) → ⊥) (λ s. (s.now ≡ row_at bytes.now at) × Framed s.now) }
 {
-    if bytes.len() < ROW || at > bytes.len() - ROW {
-        return None;
-    }
-    let row = &bytes[at..at + ROW];
-    if row[5] != b' ' {
-        return None;
-    }
-    if row[24] != b'\n' {
-        return None;
-    }
-    Some(row)
+    let row = bytes.get(at..)?.get(..ROW)?;
+    (row[5] == b' ' && row[24] == b'\n').then_some(row)
 }
 
 // Whether a netlist may have so many inputs and values.
@@ -41,21 +32,13 @@ pub(crate) fn read_head(bytes: &[u8], at: usize) -> Result<Header, RowFault>
         (λ h. HeadRow (row_at bytes.now at) h.lines h.inputs h.values × Allowed h.inputs h.values)
         (FirstFailed (HeadTest (row_at bytes.now at))) }
 {
-    let Some(row) = row_at(bytes, at) else {
-        return Err(RowFault::Incomplete);
-    };
-    if !same(&row[6..12], b"HEAD  ") {
+    let row = row_at(bytes, at).ok_or(RowFault::Incomplete)?;
+    if &row[6..12] != b"HEAD  ".as_slice() {
         return Err(RowFault::Word);
     }
-    let Some(lines) = read_number(&row[0..5]) else {
-        return Err(RowFault::Field);
-    };
-    let Some(inputs) = read_operand(&row[12..18]) else {
-        return Err(RowFault::Field);
-    };
-    let Some(values) = read_operand(&row[18..24]) else {
-        return Err(RowFault::Field);
-    };
+    let lines = read_number::<5>(&row[0..5]).ok_or(RowFault::Field)?;
+    let inputs = read_number::<6>(&row[12..18]).ok_or(RowFault::Field)?;
+    let values = read_number::<6>(&row[18..24]).ok_or(RowFault::Field)?;
     if !allowed(inputs, values) {
         return Err(RowFault::Limits);
     }
@@ -73,26 +56,16 @@ pub(crate) fn read_line(bytes: &[u8], at: usize, due: u32) -> Result<Line, RowFa
         (λ l. Readable l × (row_at bytes.now at ≡ line_row due l))
         (FirstFailed (LineTest due (row_at bytes.now at))) }
 {
-    let Some(row) = row_at(bytes, at) else {
-        return Err(RowFault::Incomplete);
-    };
-    let Some(kind) = read_kind(&row[6..12]) else {
-        return Err(RowFault::Word);
-    };
-    let Some(number) = read_number(&row[0..5]) else {
-        return Err(RowFault::Field);
-    };
-    let Some(first) = read_operand(&row[12..18]) else {
-        return Err(RowFault::Field);
-    };
-    let Some(second) = read_second(kind, &row[18..24]) else {
-        return Err(RowFault::Field);
-    };
+    let row = row_at(bytes, at).ok_or(RowFault::Incomplete)?;
+    let kind = read_kind(&row[6..12]).ok_or(RowFault::Word)?;
+    let number = read_number::<5>(&row[0..5]).ok_or(RowFault::Field)?;
+    let first = read_number::<6>(&row[12..18]).ok_or(RowFault::Field)?;
+    let second = read_second(kind, &row[18..24]).ok_or(RowFault::Field)?;
     if number != due {
         return Err(RowFault::OutOfTurn);
     }
     Ok(Line {
-        kind: kind.number(),
+        kind: u8::from(kind),
         first,
         second,
     })

@@ -1,10 +1,10 @@
-ghost use Rattle.std.specs.Prelude.{◌≡◌, ◌+◌, ◌<◌, ◌≤◌, length, Decides, MatchOption};
+ghost use Rattle.std.specs.Prelude.{◌≡◌, ◌+◌, ◌<◌, ◌≤◌, map, length, Decides, MatchOption};
 ghost use Rattle.netlist.specs.Signals.{bit};
 ghost use Rattle.text.specs.Reports.{summary_word, summary_row, bits, difference, finding_row, findings_text, finding_size, findings_size, fault_row, Written, Unwritten};
 
-use crate::field::{number_bytes, operand_bytes};
+use crate::field::{columns, operand_bytes};
 use algebra::Algebra;
-use netlist::{Difference, Finding};
+use netlist::{Difference, Finding, HasFinding};
 
 // The word in the first row of a report: what its second number counts.
 #[derive(Clone, Copy, PartialEq, Eq, Debug)]
@@ -58,7 +58,7 @@ pub fn write_summary(
     if !has_room(out.len(), at, 19) {
         return None;
     }
-    let spaced = put(out, at, &number_bytes(pairs as u64));
+    let spaced = put(out, at, &columns::<5>(u64::from(pairs)));
     let worded = put(out, spaced, b" ");
     let counted = put(out, worded, &word.word());
     let ended = put(out, counted, &operand_bytes(Some(number)));
@@ -80,9 +80,9 @@ pub fn write_fault(
     if !has_room(out.len(), at, 25) {
         return None;
     }
-    let spaced = put(out, at, &number_bytes(number as u64));
+    let spaced = put(out, at, &columns::<5>(u64::from(number)));
     let worded = put(out, spaced, b" FAULT ");
-    let first = put(out, worded, &operand_bytes(Some(netlist as u32)));
+    let first = put(out, worded, &operand_bytes(Some(u32::from(netlist))));
     let ended = put(out, first, &operand_bytes(line));
     Some(put(out, ended, b"\n"))
 }
@@ -94,10 +94,8 @@ fn bit_digit(width: u8, pattern: u64, input: u8) -> u8
 {
     let shift = width - 1 - input;
     // A pattern has 64 bits: those above them are 0.
-    if shift >= 64 {
-        return b'0';
-    }
-    b'0' + ((pattern >> shift) % 2) as u8
+    let bit = pattern.checked_shr(u32::from(shift)).unwrap_or(0) % 2;
+    b'0' + bit as u8
 }
 
 // Writes the bits of a pattern, input 0 first, and answers their end.
@@ -105,6 +103,7 @@ fn put_bits(out: &mut [u8], at: usize, width: u8, pattern: u64) -> usize
     requires { at + width ≤ length out.old }
     ensures { Written (bits width pattern) at out.old out.new result }
 {
+    // By index: of a part of the bytes that `iter_mut` wrote, a proof knows the length alone.
     for input in 0..width {
         out[at + input as usize] = bit_digit(width, pattern, input);
     }
@@ -112,26 +111,24 @@ fn put_bits(out: &mut [u8], at: usize, width: u8, pattern: u64) -> usize
 }
 
 fn size_of_row(width: u8, finding: Finding) -> usize
-    ensures value { result ≡ finding_size width finding }
-    ensures small { result < 300 }
+    ensures { result ≡ finding_size width finding }
 {
     match finding {
         Finding::Clean => 8,
-        Finding::Differs(_) => 13 + width as usize,
+        Finding::Differs(_) => 13 + usize::from(width),
     }
 }
 
 // Whether the rows of the findings fit so many bytes.
-fn rows_fit(room: usize, width: u8, findings: &[Finding]) -> bool
-    ensures { Decides result (findings_size width findings.now ≤ room) }
+fn rows_fit<F: HasFinding>(room: usize, width: u8, findings: &[F]) -> bool
+    ensures { Decides result (findings_size width (map F.of findings.now) ≤ room) }
 {
     let mut left = room;
-    for finding in findings {
-        let size = size_of_row(width, *finding);
-        if size > left {
+    for row in findings {
+        let Some(rest) = left.checked_sub(size_of_row(width, row.finding())) else {
             return false;
-        }
-        left -= size;
+        };
+        left = rest;
     }
     true
 }
@@ -167,7 +164,7 @@ fn put_finding<G: Algebra>(
     requires { at + finding_size width finding ≤ length out.old }
     ensures { Written (finding_row G.Algebra.ops.letter width number finding) at out.old out.new result }
 {
-    let spaced = put(out, at, &number_bytes(number as u64));
+    let spaced = put(out, at, &columns::<5>(number as u64));
     match finding {
         Finding::Clean => put(out, spaced, &[b' ', algebra.letter(0), b'\n']),
         Finding::Differs(d) => put_difference(algebra, out, spaced, width, d),
@@ -176,26 +173,24 @@ fn put_finding<G: Algebra>(
 
 // A row for each finding, numbered from 0: "    0 0" of a clean pair, else "    0 1 Z 0 00", and a line feed. The grade's
 // and the values' letters are the algebra's, and the pattern has `width` bits.
-pub fn write_findings<G: Algebra>(
+pub fn write_findings<G: Algebra, F: HasFinding>(
     algebra: &G,
     out: &mut [u8],
     at: usize,
     width: u8,
-    findings: &[Finding],
+    findings: &[F],
 ) -> Option<usize>
     ensures { MatchOption result
-        (Unwritten (findings_text G.Algebra.ops.letter width 0 findings.now) at out.old out.new)
-        (Written (findings_text G.Algebra.ops.letter width 0 findings.now) at out.old out.new) }
+        (Unwritten (findings_text G.Algebra.ops.letter width 0 (map F.of findings.now)) at out.old out.new)
+        (Written (findings_text G.Algebra.ops.letter width 0 (map F.of findings.now)) at out.old out.new) }
 {
-    if at > out.len() {
-        return None;
-    }
-    if !rows_fit(out.len() - at, width, findings) {
+    let room = out.len().checked_sub(at)?;
+    if !rows_fit(room, width, findings) {
         return None;
     }
     let mut end = at;
-    for (number, finding) in findings.iter().enumerate() {
-        end = put_finding(algebra, out, end, width, number, *finding);
+    for (number, row) in findings.iter().enumerate() {
+        end = put_finding(algebra, out, end, width, number, row.finding());
     }
     Some(end)
 }

@@ -8,36 +8,28 @@ mod tests {
     use std::test::Fail;
     use text::{Summary, read_netlist, read_pair, write_fault, write_findings, write_summary};
 
-    const EMPTY: Line = Line {
-        kind: 0,
-        first: 0,
-        second: 0,
-    };
-
-    // The refusal of one netlist, with room for two lines, or 0.
-    fn refusal(bytes: &[u8]) -> u8 {
-        let mut lines = [EMPTY; 2];
-        match read_netlist(bytes, 0, &mut lines) {
-            Ok(_) => 0,
-            Err(fault) => fault.number(),
-        }
+    // The refusal of one netlist, with room for two lines.
+    fn refusal(bytes: &[u8]) -> Option<u8> {
+        let mut lines = [Line::default(); 2];
+        read_netlist(bytes, 0, &mut lines)
+            .err()
+            .map(|fault| fault.number())
     }
 
-    // The refusal of two netlists: its number, netlist and line, with 99 for none.
-    fn pair_refusal(bytes: &[u8]) -> (u8, u8, u32) {
-        let mut first = [EMPTY; 2];
-        let mut second = [EMPTY; 2];
-        match read_pair(bytes, &mut first, &mut second) {
-            Ok(_) => (0, 0, 99),
-            Err(fault) => (fault.number(), fault.netlist(), fault.line().unwrap_or(99)),
-        }
+    // The refusal of two netlists: its number, netlist and line.
+    fn pair_refusal(bytes: &[u8]) -> Option<(u8, u8, Option<u32>)> {
+        let mut first = [Line::default(); 2];
+        let mut second = [Line::default(); 2];
+        read_pair(bytes, &mut first, &mut second)
+            .err()
+            .map(|fault| (fault.number(), fault.netlist(), fault.line()))
     }
 
     #[test]
     fn reads_a_netlist(rt: HostRuntime) -> Result<(), Fail> {
         let text =
             b"    4 HEAD       2     5\n    0 INPUT      0     -\n    1 CONST      3     -\n    2 IFOR       0     1\n    3 OUT        2     -\n";
-        let mut lines = [EMPTY; 5];
+        let mut lines = [Line::default(); 5];
         match read_netlist(text, 0, &mut lines) {
             Ok(header) => {
                 assert!(rt; header.lines == 4 && header.inputs == 2 && header.values == 5);
@@ -52,64 +44,65 @@ mod tests {
 
     #[test]
     fn refuses_rows(rt: HostRuntime) {
-        assert_eq!(rt; refusal(b""), 11);
-        assert_eq!(rt; refusal(b"    0 HEAD       2     5"), 11);
-        assert_eq!(rt; refusal(b"    0 HEAD       2     5 "), 11);
-        assert_eq!(rt; refusal(b"    0-HEAD       2     5\n"), 11);
-        assert_eq!(rt; refusal(&[0; 25]), 11);
-        assert_eq!(rt; refusal(&[255; 40]), 11);
-        assert_eq!(rt; refusal(b"    0 HERD       x     5\n"), 13);
-        assert_eq!(rt; refusal(b"   00 HEAD       2     5\n"), 12);
-        assert_eq!(rt; refusal(b"    0 HEAD       2     -\n"), 12);
-        assert_eq!(rt; refusal(b"    0 HEAD      61     5\n"), 15);
-        assert_eq!(rt; refusal(b"    0 HEAD       2     3\n"), 15);
-        assert_eq!(rt; refusal(b"    3 HEAD       2     5\n"), 17);
-        assert_eq!(rt; refusal(b"    0 HEAD      60     2\n"), 0);
+        assert_eq!(rt; refusal(b""), Some(11));
+        assert_eq!(rt; refusal(b"    0 HEAD       2     5"), Some(11));
+        assert_eq!(rt; refusal(b"    0 HEAD       2     5 "), Some(11));
+        assert_eq!(rt; refusal(b"    0-HEAD       2     5\n"), Some(11));
+        assert_eq!(rt; refusal(&[0; 25]), Some(11));
+        assert_eq!(rt; refusal(&[255; 40]), Some(11));
+        assert_eq!(rt; refusal(b"    0 HERD       x     5\n"), Some(13));
+        assert_eq!(rt; refusal(b"   00 HEAD       2     5\n"), Some(12));
+        assert_eq!(rt; refusal(b"    0 HEAD       2     -\n"), Some(12));
+        assert_eq!(rt; refusal(b"    0 HEAD      61     5\n"), Some(15));
+        assert_eq!(rt; refusal(b"    0 HEAD       2     3\n"), Some(15));
+        assert_eq!(rt; refusal(b"    3 HEAD       2     5\n"), Some(17));
+        assert_eq!(rt; refusal(b"    0 HEAD      60     2\n"), None);
     }
 
     #[test]
     fn refuses_lines(rt: HostRuntime) {
         assert_eq!(rt;
             refusal(b"    1 HEAD       2     5\n    0 INPUT      0     -"),
-            11
+            Some(11)
         );
         assert_eq!(rt;
             refusal(b"    1 HEAD       2     5\n    0 HEAD       2     5\n"),
-            13
+            Some(13)
         );
         assert_eq!(rt;
             refusal(b"    1 HEAD       2     5\n    0 INPUT      0     0\n"),
-            12
+            Some(12)
         );
         assert_eq!(rt;
             refusal(b"    1 HEAD       2     5\n    0 AND        0     -\n"),
-            12
+            Some(12)
         );
         assert_eq!(rt;
             refusal(b"    1 HEAD       2     5\n    1 INPUT      0     -\n"),
-            14
+            Some(14)
         );
         assert_eq!(rt;
             refusal(b"    1 HEAD       2     5\n    0 INPUT      0     -\n"),
-            0
+            None
         );
     }
 
     #[test]
     fn refuses_pairs(rt: HostRuntime) {
-        assert!(rt; pair_refusal(b"    0 HEAD       2     5\n") == (11, 2, 99));
+        assert!(rt; pair_refusal(b"    0 HEAD       2     5\n") == Some((11, 2, None)));
         assert!(rt;
-            pair_refusal(b"    1 HEAD       2     5\n    1 INPUT      0     -\n") == (14, 1, 0)
+            pair_refusal(b"    1 HEAD       2     5\n    1 INPUT      0     -\n")
+                == Some((14, 1, Some(0)))
         );
         assert!(rt;
-            pair_refusal(b"    0 HEAD       2     5\n    0 HEAD       2     5\n\n") == (16, 0, 99)
+            pair_refusal(b"    0 HEAD       2     5\n    0 HEAD       2     5\n\n")
+                == Some((16, 0, None))
         );
         assert!(rt;
-            pair_refusal(b"    0 HEAD       2     5\n    0 HEAD       2     2\n") == (41, 0, 99)
+            pair_refusal(b"    0 HEAD       2     5\n    0 HEAD       2     2\n")
+                == Some((41, 0, None))
         );
-        assert!(rt;
-            pair_refusal(b"    0 HEAD       2     5\n    0 HEAD       2     5\n") == (0, 0, 99)
-        );
+        assert!(rt; pair_refusal(b"    0 HEAD       2     5\n    0 HEAD       2     5\n") == None);
     }
 
     #[test]

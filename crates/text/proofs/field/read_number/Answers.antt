@@ -1,12 +1,12 @@
-use Rattle.std.proofs.Common.{◌≡◌, sym, ap, ◌∙◌}
-use Rattle.std.proofs.lemmas.Bool.{both_ways}
-use Rattle.text.specs.Rows.{number_field}
-use Rattle.text.specs.Guesses.{guessed5}
-use Rattle.text.proofs.Guessing.{guessed_number}
+use Rattle.std.proofs.Common.{◌<◌, ◌^◌, ap, ◌∙◌, subst}
+use Rattle.std.proofs.lemmas.Bool.Decides.{Decides-eqb}
+use Rattle.std.proofs.lemmas.Slice.Eq.{slice_eq-Decides}
+use Rattle.text.specs.Guesses.{columns}
+use Rattle.text.proofs.Guessing.{read_back}
 use Rattle.text.proofs.field.read_number.Goals as goal
 
-pub returns-else-same : goal.returns-else-same
-returns-else-same c n h e =
-    let w : c.guess5-n.result ≡ n = c.guess5-n.ensures.0 ∙ ap guessed5 e ∙ guessed_number n h in
-    let b : c.args.s.now ≡ c.number_bytes.result = e ∙ ap number_field (sym w) ∙ sym c.number_bytes.ensures in
-    both_ways c.same.result c.if-same.false (c.same.ensures.1 b)
+pub returns : goal.returns
+returns g c =
+    read_back g.row.N c.args.s.now c.as_slice.result.now c.guess-n.result c.eq.result c.then_some.result (slice_eq-Decides Decides-eqb _ _ _ c.eq.ensures)
+    (c.as_slice.ensures ∙ c.columns.ensures ∙ ap (columns g.row.N) c.from.ensures) c.guess-n.ensures.0
+    (subst (λ k. c.guess-n.result < 10 ^ k) c.requires.whole c.guess-n.ensures.1) c.then_some.ensures

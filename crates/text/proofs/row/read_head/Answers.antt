@@ -1,40 +1,51 @@
+use Rattle.std.proofs.Common.{◌≡◌, ◌∙◌}
 use Rattle.std.proofs.lemmas.Bool.Decides.{not_from_Decides}
-use Rattle.text.proofs.Tested.{no_count, no_inputs, no_values, head_fails_word, head_fails_field, is_head, head_fails_limits}
+use Rattle.std.proofs.lemmas.Option.{MatchOption-at_some}
+use Rattle.text.specs.declared.fault.RowFault.TheVariants.{Field}
+use Rattle.text.specs.Rows.{word_of}
+use Rattle.text.specs.Netlists.{head_word}
+use Rattle.text.proofs.Steps.{missing, not_unlike}
+use Rattle.text.proofs.Tested.{no_count, no_inputs, no_values, head_fails_field, is_head, head_fails_limits}
 use Rattle.text.proofs.row.read_head.Goals as goal
 
-pub returns-then-not-same : goal.returns-then-not-same
-returns-then-not-same c =
-    head_fails_word c.in-Some.row.now _ c.in-Some.ensures.0 c.in-Some.ensures.1
-    (not_from_Decides c.same.result c.same.ensures c.if-not-same.true)
+pub returns-in_err-lines : goal.returns-in_err-lines
+returns-in_err-lines c =
+    let row = c.in_ok-row.row.now in
+    let f = MatchOption-at_some _ _ c.in_ok-row.row c.in_ok-row.ensures.ok_part c.row_at.ensures in
+    missing _ _ _ _ Field _ _ c.in_err-lines.ensures.value c.from_residual-in_err-lines.ensures.1 c.read_number.ensures
+    (let w : word_of row ≡ head_word = not_unlike (word_of row) c.as_slice.result.now c.ne.result c.ne.ensures c.if-ne.false ∙ c.as_slice.ensures in λ n. head_fails_field row _ f.0 f.1 w (no_count row n))
 
-pub returns-in_default-read_number : goal.returns-in_default-read_number
-returns-in_default-read_number c =
-    head_fails_field c.in-Some.row.now _ c.in-Some.ensures.0 c.in-Some.ensures.1 (c.same.ensures.0 c.if-not-same.false)
-    (no_count c.in-Some.row.now c.in_default-read_number.ensures)
+pub returns-in_err-inputs : goal.returns-in_err-inputs
+returns-in_err-inputs c =
+    let row = c.in_ok-row.row.now in
+    let f = MatchOption-at_some _ _ c.in_ok-row.row c.in_ok-row.ensures.ok_part c.row_at.ensures in
+    missing _ _ _ _ Field _ _ c.in_err-inputs.ensures.value c.from_residual-in_err-inputs.ensures.1 c.read_number-2.ensures
+    (let w : word_of row ≡ head_word = not_unlike (word_of row) c.as_slice.result.now c.ne.result c.ne.ensures c.if-ne.false ∙ c.as_slice.ensures in λ n. head_fails_field row _ f.0 f.1 w (no_inputs row n))
 
-pub returns-in_default-read_operand : goal.returns-in_default-read_operand
-returns-in_default-read_operand c =
-    head_fails_field c.in-Some.row.now _ c.in-Some.ensures.0 c.in-Some.ensures.1 (c.same.ensures.0 c.if-not-same.false)
-    (no_inputs c.in-Some.row.now c.in_default-read_operand.ensures)
-
-pub returns-in_default-read_operand-2 : goal.returns-in_default-read_operand-2
-returns-in_default-read_operand-2 c =
-    head_fails_field c.in-Some.row.now _ c.in-Some.ensures.0 c.in-Some.ensures.1 (c.same.ensures.0 c.if-not-same.false)
-    (no_values c.in-Some.row.now c.in_default-read_operand-2.ensures)
+pub returns-in_err-values : goal.returns-in_err-values
+returns-in_err-values c =
+    let row = c.in_ok-row.row.now in
+    let f = MatchOption-at_some _ _ c.in_ok-row.row c.in_ok-row.ensures.ok_part c.row_at.ensures in
+    missing _ _ _ _ Field _ _ c.in_err-values.ensures.value c.from_residual-in_err-values.ensures.1 c.read_number-3.ensures
+    (let w : word_of row ≡ head_word = not_unlike (word_of row) c.as_slice.result.now c.ne.result c.ne.ensures c.if-ne.false ∙ c.as_slice.ensures in λ n. head_fails_field row _ f.0 f.1 w (no_values row n))
 
 pub returns-then-not-allowed : goal.returns-then-not-allowed
 returns-then-not-allowed c =
-    let w = c.same.ensures.0 c.if-not-same.false in
-    let n = c.in-Some-read_number.lines in
-    let i = c.in-Some-read_operand.inputs in
-    let v = c.in-Some-read_operand-2.values in
-    let h = is_head c.in-Some.row.now _ c.in-Some.ensures.0 c.in-Some.ensures.1 n i v w c.in-Some-read_number.ensures c.in-Some-read_operand.ensures c.in-Some-read_operand-2.ensures in
-    head_fails_limits c.in-Some.row.now _ c.in-Some.ensures.0 c.in-Some.ensures.1 n i v w h
+    let row = c.in_ok-row.row.now in
+    let f = MatchOption-at_some _ _ c.in_ok-row.row c.in_ok-row.ensures.ok_part c.row_at.ensures in
+    let w : word_of row ≡ head_word = not_unlike (word_of row) c.as_slice.result.now c.ne.result c.ne.ensures c.if-ne.false ∙ c.as_slice.ensures in
+    let n = MatchOption-at_some _ _ _ c.in_ok-lines.ensures.ok_part c.read_number.ensures in
+    let i = MatchOption-at_some _ _ _ c.in_ok-inputs.ensures.ok_part c.read_number-2.ensures in
+    let v = MatchOption-at_some _ _ _ c.in_ok-values.ensures.ok_part c.read_number-3.ensures in
+    head_fails_limits row _ f.0 f.1 _ _ _ w (is_head row _ f.0 f.1 _ _ _ w n i v)
     (not_from_Decides c.allowed.result c.allowed.ensures c.if-not-allowed.true)
 
 pub returns : goal.returns
-returns c = (
-  is_head c.in-Some.row.now _ c.in-Some.ensures.0 c.in-Some.ensures.1 c.in-Some-read_number.lines c.in-Some-read_operand.inputs c.in-Some-read_operand-2.values
-      (c.same.ensures.0 c.if-not-same.false) c.in-Some-read_number.ensures c.in-Some-read_operand.ensures c.in-Some-read_operand-2.ensures,
-  c.allowed.ensures.0 c.if-not-allowed.false,
-)
+returns c =
+    let row = c.in_ok-row.row.now in
+    let f = MatchOption-at_some _ _ c.in_ok-row.row c.in_ok-row.ensures.ok_part c.row_at.ensures in
+    let w : word_of row ≡ head_word = not_unlike (word_of row) c.as_slice.result.now c.ne.result c.ne.ensures c.if-ne.false ∙ c.as_slice.ensures in
+    let n = MatchOption-at_some _ _ _ c.in_ok-lines.ensures.ok_part c.read_number.ensures in
+    let i = MatchOption-at_some _ _ _ c.in_ok-inputs.ensures.ok_part c.read_number-2.ensures in
+    let v = MatchOption-at_some _ _ _ c.in_ok-values.ensures.ok_part c.read_number-3.ensures in
+    (is_head row _ f.0 f.1 _ _ _ w n i v, c.allowed.ensures.0 c.if-not-allowed.false)

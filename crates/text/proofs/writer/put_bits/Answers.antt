@@ -1,14 +1,7 @@
-use Rattle.std.proofs.Common.{◌≡◌, ℕ, ◌+◌, [], subst, arith}
+use Rattle.std.proofs.Common.{ℕ, ◌+◌, arith}
 use Rattle.netlist.specs.Signals.{bit}
-use Rattle.text.specs.Reports.{Written}
-use Rattle.text.proofs.Writing.{written_none}
 use Rattle.text.proofs.Found.{bits_more}
 use Rattle.text.proofs.writer.put_bits.Goals as goal
-
-pub loop-input-init : goal.loop-input-init
-loop-input-init c =
-    let e : c.args.at ≡ c.args.at + 0 = omega arith in
-    subst (Written [] c.args.at c.args.out.now c.args.out.now) e (written_none c.args.at c.args.out.now (omega arith))
 
 pub loop-input-preserved : goal.loop-input-preserved
 loop-input-preserved c =
