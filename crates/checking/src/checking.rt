@@ -5,7 +5,7 @@ mod calls;
 pub use calls::check;
 
 // What a pair came to: the handle of GRADE of both, and the finding.
-#[derive(Clone, Copy)]
+#[derive(Clone, Copy, PartialEq, Eq, Debug)]
 pub struct Checked {
     pub handle: u32,
     pub finding: Finding,

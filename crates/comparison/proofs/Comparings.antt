@@ -20,26 +20,8 @@ use Rattle.faults.specs.declared.fault.LayFault.TheVariants.{ShortList as ShortL
 use Rattle.faults.specs.declared.fault.CompareFault.{CompareFault}
 use Rattle.faults.specs.declared.fault.CompareFault.TheVariants.{ShortList, FewFindings, OutCounts, Table, First, Second, Pair}
 use Rattle.laying.specs.Lays.{Laid, RefusedLine, lay_answers}
-use Rattle.comparison.specs.Compares.{in_first, in_second, LineRefused, PartsCompared, parts_event, Counted, CountsRefused, Unchanged, second_part, Begun, Compared, compare_event}
+use Rattle.comparison.specs.Compares.{LineRefused, PartsCompared, parts_event, Counted, CountsRefused, Unchanged, second_part, Begun, Compared, compare_event}
 use Rattle.checking.specs.declared.checking.Checked.{Checked}
-
--- ---- what a netlist came to
-
-pub first_ok : (r : Result (Unit {0}) LayFault) (x : Unit {0}) → Ok x ≡ in_first r → r ≡ Ok tt
-first_ok (Ok y) x e = refl
-first_ok (Err d) x e = absurd (let z : ◌≡◌ {A = ℕ} 0 1 = cc in omega arith)
-
-pub first_err : (r : Result (Unit {0}) LayFault) (f : CompareFault) → Err f ≡ in_first r → (d : LayFault) × (r ≡ Err d) × (f ≡ First d)
-first_err (Ok y) f e = absurd (let z : ◌≡◌ {A = ℕ} 0 1 = cc in omega arith)
-first_err (Err d) f e = (d, refl, cc)
-
-pub second_ok : (r : Result (Unit {0}) LayFault) (x : Unit {0}) → Ok x ≡ in_second r → r ≡ Ok tt
-second_ok (Ok y) x e = refl
-second_ok (Err d) x e = absurd (let z : ◌≡◌ {A = ℕ} 0 1 = cc in omega arith)
-
-pub second_err : (r : Result (Unit {0}) LayFault) (f : CompareFault) → Err f ≡ in_second r → (d : LayFault) × (r ≡ Err d) × (f ≡ Second d)
-second_err (Ok y) f e = absurd (let z : ◌≡◌ {A = ℕ} 0 1 = cc in omega arith)
-second_err (Err d) f e = (d, refl, cc)
 
 -- ---- a netlist that is laid where there is room
 

@@ -9,7 +9,7 @@ ghost use Rattle.laying.specs.Lays.{TableRefuses, line_answer, LineKept, Lined, 
 
 use algebra::Algebra;
 use diagram::{Memo, Row, Table, TableFault};
-use faults::{LayFault, LineReason, at_line};
+use faults::{LayFault, LineReason};
 use netlist::{Line, fault_of};
 
 // The numbers of the kinds that are no operators.
@@ -108,10 +108,9 @@ pub fn lay<G: Algebra, M: Memo>(
         return Err(LayFault::Table(TableFault::FewRows));
     }
     for (number, line) in lines.iter().enumerate() {
-        let h = at_line(
-            lay_line(table, algebra, memo, rows, number, *line, handles),
-            number,
-        )?;
+        // by its number, since the line reads the handles so far
+        let h = lay_line(table, algebra, memo, rows, number, *line, handles)
+            .map_err(|fault| fault.at(number))?;
         handles[number] = h;
     }
     Ok(())
