@@ -2,9 +2,9 @@ ghost use Rattle.std.specs.Prelude.{◌≡◌};
 ghost use Rattle.faults.specs.declared.fault.LineReason.TheVariants as reasons;
 ghost use Rattle.faults.specs.declared.fault.LayFault.TheVariants as lays;
 ghost use Rattle.faults.specs.declared.fault.CompareFault.TheVariants as compares;
-ghost use Rattle.faults.specs.Faults.{line_reason_number, lay_fault_number, lay_fault_line, compare_fault_number, compare_fault_netlist, compare_fault_line};
+ghost use Rattle.faults.specs.Faults.{line_reason_number, lay_fault_number, lay_fault_line, compare_fault_number, compare_fault_netlist, compare_fault_line, of_counts};
 
-use netlist::LineFault;
+use netlist::{CountFault, LineFault, Located};
 use records::TableFault;
 
 // Why a line is refused: by its own fields, or by the table.
@@ -50,11 +50,7 @@ impl From<TableFault> for LineReason {
 }
 
 // The line of a netlist that is refused, and why.
-#[derive(Clone, Copy, PartialEq, Eq, Debug)]
-pub struct LineRefusal {
-    pub line: usize,
-    pub fault: LineReason,
-}
+pub type LineRefusal = Located<LineReason>;
 
 // Why a netlist is not laid, or not wholly.
 #[derive(Clone, Copy, PartialEq, Eq, Debug)]
@@ -130,13 +126,12 @@ impl CompareFault {
             CompareFault::FewFindings => 43,
             CompareFault::OutCounts => 42,
             CompareFault::Table(f) => f.number(),
-            CompareFault::First(f) => f.number(),
-            CompareFault::Second(f) => f.number(),
+            CompareFault::First(f) | CompareFault::Second(f) => f.number(),
             CompareFault::Pair(e) => e.fault.number(),
         }
     }
 
-    // The netlist that is refused, 1 or 2, or 0 for neither.
+    // The netlist that is refused, 1 or 2, or 0 for neither, as reports write it.
     pub fn netlist(self) -> u8
         ensures { result ≡ compare_fault_netlist self }
     {
@@ -152,9 +147,20 @@ impl CompareFault {
         ensures { result ≡ compare_fault_line self }
     {
         match self {
-            CompareFault::First(f) => f.line(),
-            CompareFault::Second(f) => f.line(),
+            CompareFault::First(f) | CompareFault::Second(f) => f.line(),
             _ => None,
+        }
+    }
+}
+
+impl From<CountFault> for CompareFault {
+    ghost from_gives = { λ e r. r ≡ of_counts e };
+
+    fn from(e: CountFault) -> CompareFault {
+        match e {
+            CountFault::ShortList => CompareFault::ShortList,
+            CountFault::FewFindings => CompareFault::FewFindings,
+            CountFault::OutCounts => CompareFault::OutCounts,
         }
     }
 }
