@@ -1,9 +1,9 @@
 // Comparing two netlists on a table.
-ghost use Rattle.std.specs.Prelude.{◌≡◌, ◌+◌, ◌<◌, ◌≤◌, ◌∷◌, length, take, drop, MatchResult};
+ghost use Rattle.std.specs.Prelude.{◌≡◌, ◌+◌, ◌<◌, ◌≤◌, ◌∷◌, length, take, drop};
 ghost use Rattle.netlist.specs.Lines.{out_count};
 ghost use Rattle.records.specs.Runs.{Run, Kept};
 ghost use Rattle.diagram.specs.Views.{view, room};
-ghost use Rattle.comparison.specs.Compares.{second_part, parts_event, PartsCompared, Counted, CountsRefused, Compared, compare_event};
+ghost use Rattle.comparison.specs.Compares.{second_part, parts_event, PartsCompared, Compared, compare_event};
 
 use crate::pairing::check_pairs;
 use algebra::Algebra;
@@ -11,7 +11,7 @@ use checking::Checked;
 use diagram::{Memo, Row, Table, TableFault};
 use faults::CompareFault;
 use laying::lay;
-use netlist::{Line, count_outs};
+use netlist::{Line, count_pairs};
 
 // Lays both netlists, the second one's handles after the first one's, and checks their OUT lines pairwise, a row for each.
 fn compare_parts<G: Algebra, M: Memo>(
@@ -52,30 +52,6 @@ fn compare_parts<G: Algebra, M: Memo>(
         found,
     )?;
     Ok(())
-}
-
-// The tests on the counts, in order, with so many handles and rows for findings; the number of pairs where all pass.
-fn count_pairs(
-    first: &[Line],
-    second: &[Line],
-    handles: usize,
-    found: usize,
-) -> Result<usize, CompareFault>
-    ensures { MatchResult result
-        (λ n. (n ≡ out_count first.now) × Counted first.now second.now handles found)
-        (λ e. CountsRefused first.now second.now handles found e) }
-{
-    if handles < first.len() || handles - first.len() < second.len() {
-        return Err(CompareFault::ShortList);
-    }
-    let pairs = count_outs(first);
-    if found < pairs {
-        return Err(CompareFault::FewFindings);
-    }
-    if count_outs(second) != pairs {
-        return Err(CompareFault::OutCounts);
-    }
-    Ok(pairs)
 }
 
 // Compares two netlists: lays both, the second one's handles after the first one's in the same list, and checks pair n, the

@@ -10,9 +10,9 @@ use algebra::Algebra;
 use checking::{Checked, check};
 use diagram::{Memo, Row, Table};
 use faults::PairRefusal;
-use netlist::Line;
+use netlist::{Kind, Line};
 
-const OUT: u8 = 8;
+const OUT: u8 = Kind::Out as u8;
 
 // The number of the next OUT line, from a line on, or the count of lines where there is none.
 fn next_out(lines: &[Line], from: usize) -> usize
@@ -57,8 +57,9 @@ pub(crate) fn check_pairs<G: Algebra, M: Memo>(
     for pair in 0..found.len() {
         let x = next_out(first, from_left);
         let y = next_out(second, from_right);
-        found[pair] = check(table, algebra, memo, rows, left[x], right[y])
+        let checked = check(table, algebra, memo, rows, left[x], right[y])
             .map_err(|fault| PairRefusal { pair, fault })?;
+        found[pair] = checked;
         from_left = x + 1;
         from_right = y + 1;
     }
