@@ -1,5 +1,5 @@
 // How two handles grade, from the handle of their GRADE.
-ghost use Rattle.std.specs.Prelude.{◌≡◌, ◌^◌, ◌<◌};
+ghost use Rattle.std.specs.Prelude.{◌≡◌, ◌^◌, ◌<◌, Some};
 ghost use Rattle.netlist.specs.Findings.{finding, first};
 ghost use Rattle.records.specs.Rules.{Lawful};
 ghost use Rattle.records.specs.Stores.{value};
@@ -10,14 +10,12 @@ use algebra::Algebra;
 use diagram::Table;
 use netlist::{Difference, Finding, Pattern};
 
-// The value of a lawful handle on a pattern of the table's width; 0 for what is neither.
-fn value_on<G: Algebra>(table: &Table, algebra: &G, h: u32, number: u64) -> u8
-    ensures { Lawful G.ops (view table.now) h → number < 2 ^ (view table.now).inputs → result ≡ value G.ops (view table.now) h number }
+// The value of a lawful handle on a pattern of the table's width.
+fn value_on<G: Algebra>(table: &Table, algebra: &G, h: u32, number: u64) -> Option<u8>
+    ensures { Lawful G.ops (view table.now) h → number < 2 ^ (view table.now).inputs → result ≡ Some (value G.ops (view table.now) h number) }
 {
-    let Ok(pattern) = Pattern::new(table.inputs(), number) else {
-        return 0;
-    };
-    table.value(algebra, h, pattern).unwrap_or(0)
+    let pattern = Pattern::new(table.inputs(), number).ok()?;
+    table.value(algebra, h, pattern).ok()
 }
 
 // Where two handles first have a grade, and both values there.
@@ -32,15 +30,10 @@ fn difference<G: Algebra>(
     ensures { Graded G.ops (view table.now) graded x y → grade < G.ops.count
         → result ≡ difference_of (value G.ops (view table.now) x) (value G.ops (view table.now) y) grade (first (view table.now).inputs (value G.ops (view table.now) graded) grade) }
 {
-    let Ok(Some(pattern)) = table.find(algebra, graded, grade) else {
-        return None;
-    };
-    Some(Difference {
-        grade,
-        pattern,
-        left: value_on(table, algebra, x, pattern),
-        right: value_on(table, algebra, y, pattern),
-    })
+    let pattern = table.find(algebra, graded, grade).ok()??;
+    let left = value_on(table, algebra, x, pattern)?;
+    let right = value_on(table, algebra, y, pattern)?;
+    Some(Difference { grade, pattern, left, right })
 }
 
 // The finding of two handles: the gravest grade that occurs, at its first pattern.
@@ -54,11 +47,9 @@ pub(crate) fn grade_pair<G: Algebra>(
     ensures { Graded G.ops (view table.now) graded x y
         → result ≡ finding G.ops (view table.now).inputs (value G.ops (view table.now) x) (value G.ops (view table.now) y) }
 {
-    let order = algebra.grave_order();
-    for grade in order {
-        if let Some(found) = difference(table, algebra, graded, *grade, x, y) {
-            return Finding::Differs(found);
-        }
-    }
-    Finding::Clean
+    algebra
+        .grave_order()
+        .iter()
+        .find_map(|grade| difference(table, algebra, graded, *grade, x, y))
+        .map_or(Finding::Clean, Finding::Differs)
 }

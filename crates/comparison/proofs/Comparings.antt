@@ -7,6 +7,10 @@ use Rattle.algebra.specs.Laws.{Laws}
 use Rattle.netlist.specs.declared.line.Line.{Line}
 use Rattle.netlist.specs.Lines.{out_count}
 use Rattle.netlist.specs.Faults.{first_fault}
+use Rattle.netlist.specs.Counts.{Counts, CountsRefused}
+use Rattle.netlist.specs.declared.fault.CountFault.{CountFault}
+use Rattle.netlist.specs.declared.fault.CountFault.TheVariants.{ShortList as NoRoom, FewFindings as NoRows, OutCounts as Uneven}
+use Rattle.faults.specs.Faults.{of_counts}
 use Rattle.records.specs.Stores.{Store}
 use Rattle.records.specs.Rules.{Well}
 use Rattle.memo.specs.Memos.{Pairs}
@@ -20,26 +24,8 @@ use Rattle.faults.specs.declared.fault.LayFault.TheVariants.{ShortList as ShortL
 use Rattle.faults.specs.declared.fault.CompareFault.{CompareFault}
 use Rattle.faults.specs.declared.fault.CompareFault.TheVariants.{ShortList, FewFindings, OutCounts, Table, First, Second, Pair}
 use Rattle.laying.specs.Lays.{Laid, RefusedLine, lay_answers}
-use Rattle.comparison.specs.Compares.{in_first, in_second, LineRefused, PartsCompared, parts_event, Counted, CountsRefused, Unchanged, second_part, Begun, Compared, compare_event}
+use Rattle.comparison.specs.Compares.{LineRefused, PartsCompared, parts_event, Unchanged, second_part, Begun, Compared, compare_event}
 use Rattle.checking.specs.declared.checking.Checked.{Checked}
-
--- ---- what a netlist came to
-
-pub first_ok : (r : Result (Unit {0}) LayFault) (x : Unit {0}) → Ok x ≡ in_first r → r ≡ Ok tt
-first_ok (Ok y) x e = refl
-first_ok (Err d) x e = absurd (let z : ◌≡◌ {A = ℕ} 0 1 = cc in omega arith)
-
-pub first_err : (r : Result (Unit {0}) LayFault) (f : CompareFault) → Err f ≡ in_first r → (d : LayFault) × (r ≡ Err d) × (f ≡ First d)
-first_err (Ok y) f e = absurd (let z : ◌≡◌ {A = ℕ} 0 1 = cc in omega arith)
-first_err (Err d) f e = (d, refl, cc)
-
-pub second_ok : (r : Result (Unit {0}) LayFault) (x : Unit {0}) → Ok x ≡ in_second r → r ≡ Ok tt
-second_ok (Ok y) x e = refl
-second_ok (Err d) x e = absurd (let z : ◌≡◌ {A = ℕ} 0 1 = cc in omega arith)
-
-pub second_err : (r : Result (Unit {0}) LayFault) (f : CompareFault) → Err f ≡ in_second r → (d : LayFault) × (r ≡ Err d) × (f ≡ Second d)
-second_err (Ok y) f e = absurd (let z : ◌≡◌ {A = ℕ} 0 1 = cc in omega arith)
-second_err (Err d) f e = (d, refl, cc)
 
 -- ---- a netlist that is laid where there is room
 
@@ -122,24 +108,16 @@ module _ (o : Ops) (s : Store) (P : Pairs) (rows : ℕ) (ls ms : List Line) (hs 
   abbrev unchanged : Unchanged s s P P hs hs cs cs
   unchanged = record { table = refl; memo = refl; handles = refl; found = refl }
 
-  pub counts_refused : (e : CompareFault) → CountsRefused ls ms (length hs) (length cs) e → Compared o s s P P rows ls ms hs hs cs cs (Err e)
-  counts_refused ShortList x = (x, unchanged)
-  counts_refused FewFindings x = (x, unchanged)
-  counts_refused OutCounts x = (x, unchanged)
-  counts_refused (Table f) x = absurd x
-  counts_refused (First e) x = absurd x
-  counts_refused (Second e) x = absurd x
-  counts_refused (Pair e) x = absurd x
+  pub counts_refused : (e : CountFault) → CountsRefused ls ms (length hs) (length cs) e → Compared o s s P P rows ls ms hs hs cs cs (Err (of_counts e))
+  counts_refused NoRoom x = (x, unchanged)
+  counts_refused NoRows x = (x, unchanged)
+  counts_refused Uneven x = (x, unchanged)
 
   -- no line is told anything
-  pub counts_event : (room : ℕ) (run : Run) (e : CompareFault) → CountsRefused ls ms (length hs) (length cs) e → Kept o room (compare ls ms [] [] [] [] ∷ run) s P → Kept o room (compare_event ls ms hs cs (Err e) ∷ run) s P
-  counts_event room run ShortList x kept = kept
-  counts_event room run FewFindings x kept = kept
-  counts_event room run OutCounts x kept = kept
-  counts_event room run (Table f) x kept = absurd x
-  counts_event room run (First e) x kept = absurd x
-  counts_event room run (Second e) x kept = absurd x
-  counts_event room run (Pair e) x kept = absurd x
+  pub counts_event : (room : ℕ) (run : Run) (e : CountFault) → Kept o room (compare ls ms [] [] [] [] ∷ run) s P → Kept o room (compare_event ls ms hs cs (Err (of_counts e)) ∷ run) s P
+  counts_event room run NoRoom kept = kept
+  counts_event room run NoRows kept = kept
+  counts_event room run Uneven kept = kept
 
 pub begun_refused : (o : Ops) (s t : Store) (P Q : Pairs) (rows : ℕ) (ls ms : List Line) (hs hs' : List ℕ) (cs cs' : List Checked) (e : CompareFault)
     → Begun o s t rows ls ms hs hs' cs cs' (Err e) → Compared o s t P Q rows ls ms hs hs' cs cs' (Err e)
@@ -153,9 +131,9 @@ begun_refused o s t P Q rows ls ms hs hs' cs cs' (Pair e) x = x
 
 -- ---- the rows for the pairs, in front of a list
 
-module _ (o : Ops) (s t : Store) (rows : ℕ) (ls ms : List Line) (hs hs' : List ℕ) (cs ds : List Checked) (k : ℕ) (is : k ≡ out_count ls) (long : length ds ≡ length (take k cs)) (counted : Counted ls ms (length hs) (length cs)) where
+module _ (o : Ops) (s t : Store) (rows : ℕ) (ls ms : List Line) (hs hs' : List ℕ) (cs ds : List Checked) (k : ℕ) (is : k ≡ out_count ls) (long : length ds ≡ length (take k cs)) (counted : Counts ls ms (length hs) (length cs)) where
   rows_long : length ds ≡ out_count ls
-  rows_long = long ∙ length-take-le k cs (let h = counted.rows in omega arith) ∙ is
+  rows_long = long ∙ length-take-le k cs (let h = counted.findings in omega arith) ∙ is
 
   pub rows_front : take (out_count ls) (ds ++ post_of 0 k cs) ≡ ds
   rows_front = front_first (out_count ls) 0 k cs ds is rows_long

@@ -1,5 +1,4 @@
 pub mod Pairings
 pub mod Comparings
-pub mod Reruns
 pub mod Erased
-pub mod Together
+pub mod Reruns

@@ -21,10 +21,9 @@ use Rattle.records.specs.Runs.{told, Run, compare, Kept}
 use Rattle.records.proofs.Adds.{grows_refl, grows_trans}
 use Rattle.records.proofs.Comparing.{Due, kept_pair, kept_refused_pair}
 use Rattle.checking.specs.declared.checking.Checked.{Checked}
-use Rattle.faults.specs.declared.fault.PairRefusal.{PairRefusal}
 use Rattle.checking.specs.Checks.{handle_of}
 use Rattle.laying.specs.Lays.{blank_line, TableRefuses}
-use Rattle.comparison.specs.Compares.{at_pair, row_handles, row_findings, no_pairs, pairs_event, PairsChecked}
+use Rattle.comparison.specs.Compares.{row_handles, row_findings, no_pairs, pairs_event, PairsChecked}
 use Rattle.laying.proofs.Lines.{outcome, join_refuses}
 use Rattle.laying.proofs.Layings.{back_grows}
 
@@ -198,14 +197,3 @@ pub all_checked : {o : Ops} {room : ℕ} {s t : Store} {P Q : Pairs} {ls ms : Li
     → (run : Run) → Kept o room (no_pairs ls ms hs ks ∷ run) s P → Kept o room (pairs_event ls ms hs ks new (Ok tt) ∷ run) t Q
 all_checked {o} {room} {s} {t} {P} {Q} {ls} {ms} {hs} {ks} {old} {new} {k} checking end run kept =
     subst (λ z. Kept o room (compare ls ms (map told hs) (map told ks) (map told (row_handles z)) (row_findings z) ∷ run) t Q) (take_all k new end) (checking.kept run kept)
-
--- what a pair came to, from what it came to with its number
-pub pair_ok : (r : Result Checked TableFault) (k : ℕ) (x : Checked) → Ok x ≡ at_pair r k → r ≡ Ok x
-pair_ok (Ok y) k x e = cc
-pair_ok (Err f) k x e = absurd (let z : ◌≡◌ {A = ℕ} 0 1 = cc in omega arith)
-
-pub pair_err : (r : Result Checked TableFault) (k : ℕ) (d : PairRefusal) → Err d ≡ at_pair r k → (r ≡ Err d.fault) × (d ≡ record { pair = k; fault = d.fault })
-pair_err (Ok y) k d e = absurd (let z : ◌≡◌ {A = ℕ} 0 1 = cc in omega arith)
-pair_err (Err f) k d e =
-    let same : d ≡ record { pair = k; fault = f } = cc in
-    (ap Err (sym (ap (λ x. x.fault) same)), same ∙ ap (λ x. record { pair = k; fault = x }) (sym (ap (λ x. x.fault) same)))

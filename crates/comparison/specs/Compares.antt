@@ -1,10 +1,12 @@
 -- What checking pairs and comparing netlists answers and leaves. Assumes nothing.
-use Rattle.std.specs.Prelude.{◌≡◌, ℕ, ◌+◌, ◌<◌, ◌≤◌, List, [], ◌∷◌, ◌++◌, map, length, take, drop, None, Ok, Err, Result, ◌≢◌}
+use Rattle.std.specs.Prelude.{◌≡◌, ℕ, ◌+◌, ◌<◌, ◌≤◌, List, [], ◌∷◌, ◌++◌, map, length, take, drop, None, Ok, Err, Result}
 use Rattle.algebra.specs.Ops.{Ops}
 use Rattle.netlist.specs.declared.line.Line.{Line}
 use Rattle.netlist.specs.declared.finding.Finding.{Finding}
 use Rattle.netlist.specs.Lines.{out_count}
 use Rattle.netlist.specs.Faults.{first_fault}
+use Rattle.netlist.specs.Counts.{Counts, CountsRefused}
+use Rattle.netlist.specs.declared.fault.CountFault.TheVariants.{ShortList as NoRoom, FewFindings as NoRows, OutCounts as Uneven}
 use Rattle.records.specs.declared.fault.TableFault.{TableFault}
 use Rattle.records.specs.declared.fault.TableFault.TheVariants.{FewRows}
 use Rattle.records.specs.Stores.{Store}
@@ -18,11 +20,6 @@ use Rattle.faults.specs.declared.fault.LayFault.TheVariants.{ShortList as ShortL
 use Rattle.faults.specs.declared.fault.CompareFault.{CompareFault}
 use Rattle.faults.specs.declared.fault.CompareFault.TheVariants.{ShortList, FewFindings, OutCounts, Table, First, Second, Pair}
 use Rattle.laying.specs.Lays.{TableRefuses, RefusedLine, Written, lay_answers}
-
--- what a pair came to, with its number at a fault
-abbrev pub at_pair : Result Checked TableFault → ℕ → Result Checked PairRefusal
-at_pair (Ok c) k = Ok c
-at_pair (Err f) k = Err (record { pair = k; fault = f })
 
 -- the handles and the findings of rows
 abbrev pub row_handles : List Checked → List ℕ
@@ -49,15 +46,6 @@ pairs_event ls ms hs ks cs (Err e) =
 abbrev pub PairsChecked : Ops → Store → Store → List ℕ → List Checked → List Checked → Result (Unit {0}) PairRefusal → Type 0
 PairsChecked o s t hs old new (Ok _) = Grows s t
 PairsChecked o s t hs old new (Err e) = Grows s t × (e.pair < length old) × TableRefuses o t hs e.fault × (drop e.pair new ≡ drop e.pair old)
-
--- what the first and what the second netlist came to
-abbrev pub in_first : Result (Unit {0}) LayFault → Result (Unit {0}) CompareFault
-in_first (Ok x) = Ok x
-in_first (Err e) = Err (First e)
-
-abbrev pub in_second : Result (Unit {0}) LayFault → Result (Unit {0}) CompareFault
-in_second (Ok x) = Ok x
-in_second (Err e) = Err (Second e)
 
 -- the handles of the first netlist's lines are hs, those of the second's ks, and the pairs' rows are cs
 abbrev pub parts_event : List Line → List Line → List ℕ → List ℕ → List Checked → Result (Unit {0}) CompareFault → Event
@@ -89,22 +77,6 @@ PartsCompared o s t ls ms hs hs' ks ks' cs cs' (Err (Second e)) = (first_fault o
 PartsCompared o s t ls ms hs hs' ks ks' cs cs' (Err (Pair e)) =
     (first_fault o s.inputs 0 ls ≡ None) × (first_fault o s.inputs 0 ms ≡ None) × PairsChecked o s t (hs' ++ ks') cs cs' (Err e)
 
--- the counts let two netlists be compared with so many handles and rows for findings
-pub record Counted (ls ms : List Line) (handles found : ℕ) : Type 0 where
-  pub long : length ls + length ms ≤ handles
-  pub rows : out_count ls ≤ found
-  pub even : out_count ms ≡ out_count ls
-
--- the first test on the counts that refuses
-abbrev pub CountsRefused : List Line → List Line → ℕ → ℕ → CompareFault → Type 0
-CountsRefused ls ms handles found ShortList = handles < length ls + length ms
-CountsRefused ls ms handles found FewFindings = (length ls + length ms ≤ handles) × (found < out_count ls)
-CountsRefused ls ms handles found OutCounts = (length ls + length ms ≤ handles) × (out_count ls ≤ found) × (out_count ms ≢ out_count ls)
-CountsRefused ls ms handles found (Table f) = ⊥
-CountsRefused ls ms handles found (First e) = ⊥
-CountsRefused ls ms handles found (Second e) = ⊥
-CountsRefused ls ms handles found (Pair e) = ⊥
-
 -- nothing is changed
 pub record Unchanged (s t : Store) (P Q : Pairs) (hs hs' : List ℕ) (cs cs' : List Checked) : Type 0 where
   pub table : t ≡ s
@@ -118,7 +90,7 @@ second_part ls ms hs = take (length ms) (drop (length ls) hs)
 
 -- the tests before the lines passed
 pub record Begun (o : Ops) (s t : Store) (rows : ℕ) (ls ms : List Line) (hs hs' : List ℕ) (cs cs' : List Checked) (r : Result (Unit {0}) CompareFault) : Type 0 where
-  pub counted : Counted ls ms (length hs) (length cs)
+  pub counted : Counts ls ms (length hs) (length cs)
   pub enough : s.inputs < rows
   pub parts : PartsCompared o s t ls ms (take (length ls) hs) (take (length ls) hs') (second_part ls ms hs) (second_part ls ms hs') (take (out_count ls) cs) (take (out_count ls) cs') r
   pub handles_rest : drop (length ls + length ms) hs' ≡ drop (length ls + length ms) hs
@@ -127,10 +99,10 @@ pub record Begun (o : Ops) (s t : Store) (rows : ℕ) (ls ms : List Line) (hs hs
 -- what comparing answers and leaves: the tests in order, then the lines and the pairs
 abbrev pub Compared : Ops → Store → Store → Pairs → Pairs → ℕ → List Line → List Line → List ℕ → List ℕ → List Checked → List Checked → Result ℕ CompareFault → Type 0
 Compared o s t P Q rows ls ms hs hs' cs cs' (Ok n) = (n ≡ out_count ls) × Begun o s t rows ls ms hs hs' cs cs' (Ok tt)
-Compared o s t P Q rows ls ms hs hs' cs cs' (Err ShortList) = CountsRefused ls ms (length hs) (length cs) ShortList × Unchanged s t P Q hs hs' cs cs'
-Compared o s t P Q rows ls ms hs hs' cs cs' (Err FewFindings) = CountsRefused ls ms (length hs) (length cs) FewFindings × Unchanged s t P Q hs hs' cs cs'
-Compared o s t P Q rows ls ms hs hs' cs cs' (Err OutCounts) = CountsRefused ls ms (length hs) (length cs) OutCounts × Unchanged s t P Q hs hs' cs cs'
-Compared o s t P Q rows ls ms hs hs' cs cs' (Err (Table f)) = Counted ls ms (length hs) (length cs) × (rows ≤ s.inputs) × (f ≡ FewRows) × Unchanged s t P Q hs hs' cs cs'
+Compared o s t P Q rows ls ms hs hs' cs cs' (Err ShortList) = CountsRefused ls ms (length hs) (length cs) NoRoom × Unchanged s t P Q hs hs' cs cs'
+Compared o s t P Q rows ls ms hs hs' cs cs' (Err FewFindings) = CountsRefused ls ms (length hs) (length cs) NoRows × Unchanged s t P Q hs hs' cs cs'
+Compared o s t P Q rows ls ms hs hs' cs cs' (Err OutCounts) = CountsRefused ls ms (length hs) (length cs) Uneven × Unchanged s t P Q hs hs' cs cs'
+Compared o s t P Q rows ls ms hs hs' cs cs' (Err (Table f)) = Counts ls ms (length hs) (length cs) × (rows ≤ s.inputs) × (f ≡ FewRows) × Unchanged s t P Q hs hs' cs cs'
 Compared o s t P Q rows ls ms hs hs' cs cs' (Err (First e)) = Begun o s t rows ls ms hs hs' cs cs' (Err (First e))
 Compared o s t P Q rows ls ms hs hs' cs cs' (Err (Second e)) = Begun o s t rows ls ms hs hs' cs cs' (Err (Second e))
 Compared o s t P Q rows ls ms hs hs' cs cs' (Err (Pair e)) = Begun o s t rows ls ms hs hs' cs cs' (Err (Pair e))

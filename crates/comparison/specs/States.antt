@@ -1,6 +1,6 @@
 -- What a list of calls on a started table comes to, call by call: each call's own contract between the states before and
 -- after it, and its own handles and rows. Assumes nothing.
-use Rattle.std.specs.Prelude.{◌≡◌, ℕ, ◌+◌, ◌<◌, ◌≤◌, List, [], ◌∷◌, ◌++◌, length, take, drop, Some, Ok, Err, Result}
+use Rattle.std.specs.Prelude.{◌≡◌, ℕ, ◌+◌, ◌<◌, ◌≤◌, Bool, true, false, List, [], ◌∷◌, ◌++◌, length, take, drop, Some, Ok, Err, Result}
 use Rattle.algebra.specs.Ops.{Ops}
 use Rattle.netlist.specs.declared.line.Line.{Line}
 use Rattle.records.specs.declared.fault.TableFault.{TableFault}
@@ -147,3 +147,8 @@ abbrev pub ReplayLeaves : Ops → ℕ → ℕ → ℕ → List Line → List Cal
 ReplayLeaves o room n work ls cs s t old new (Ok _) = (length cs ≤ length old) × (n ≤ 60) × RanFrom o room n work ls cs s t old new
 ReplayLeaves o room n work ls cs s t old new (Err ShortList) = (length old < length cs) × (t ≡ s) × (new ≡ old)
 ReplayLeaves o room n work ls cs s t old new (Err (Table f)) = (length cs ≤ length old) × (start_refusal n ≡ Some f) × (t ≡ s) × (new ≡ old)
+
+-- .. as the calls are lent the lists: kept apart, or whole
+abbrev pub ReplayLent : Bool → Ops → ℕ → ℕ → ℕ → List Line → List Call → State → State → List Told → List Told → Result (Unit {0}) ReplayFault → Type 0
+ReplayLent true o room n work ls cs s t old new r = ReplayLeaves o room n work ls cs s t old new r
+ReplayLent false o room n work ls cs s t old new r = ReplayCalls o room n work ls cs s t old new r

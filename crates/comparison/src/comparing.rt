@@ -1,37 +1,17 @@
 // Comparing two netlists on a table.
-ghost use Rattle.std.specs.Prelude.{◌≡◌, ◌+◌, ◌<◌, ◌≤◌, ◌∷◌, length, take, drop, MatchResult};
+ghost use Rattle.std.specs.Prelude.{◌≡◌, ◌+◌, ◌<◌, ◌≤◌, ◌∷◌, length, take, drop};
 ghost use Rattle.netlist.specs.Lines.{out_count};
 ghost use Rattle.records.specs.Runs.{Run, Kept};
 ghost use Rattle.diagram.specs.Views.{view, room};
-ghost use Rattle.comparison.specs.Compares.{in_first, in_second, second_part, parts_event, PartsCompared, Counted, CountsRefused, Compared, compare_event};
+ghost use Rattle.comparison.specs.Compares.{second_part, parts_event, PartsCompared, Compared, compare_event};
 
 use crate::pairing::check_pairs;
 use algebra::Algebra;
 use checking::Checked;
 use diagram::{Memo, Row, Table, TableFault};
-use faults::{CompareFault, LayFault};
+use faults::CompareFault;
 use laying::lay;
-use netlist::{Line, count_outs};
-
-// What the first netlist came to.
-fn in_first(r: Result<(), LayFault>) -> Result<(), CompareFault>
-    ensures { result ≡ in_first r }
-{
-    match r {
-        Ok(_) => Ok(()),
-        Err(e) => Err(CompareFault::First(e)),
-    }
-}
-
-// What the second one came to.
-fn in_second(r: Result<(), LayFault>) -> Result<(), CompareFault>
-    ensures { result ≡ in_second r }
-{
-    match r {
-        Ok(_) => Ok(()),
-        Err(e) => Err(CompareFault::Second(e)),
-    }
-}
+use netlist::{Line, count_pairs};
 
 // Lays both netlists, the second one's handles after the first one's, and checks their OUT lines pairwise, a row for each.
 fn compare_parts<G: Algebra, M: Memo>(
@@ -56,15 +36,10 @@ fn compare_parts<G: Algebra, M: Memo>(
 {
     let middle = first.len();
     let end = middle + second.len();
-    in_first(lay(table, algebra, memo, rows, first, &mut handles[0..middle]))?;
-    in_second(lay(
-        table,
-        algebra,
-        memo,
-        rows,
-        second,
-        &mut handles[middle..end],
-    ))?;
+    lay(table, algebra, memo, rows, first, &mut handles[0..middle])
+        .map_err(CompareFault::First)?;
+    lay(table, algebra, memo, rows, second, &mut handles[middle..end])
+        .map_err(CompareFault::Second)?;
     check_pairs(
         table,
         algebra,
@@ -77,30 +52,6 @@ fn compare_parts<G: Algebra, M: Memo>(
         found,
     )?;
     Ok(())
-}
-
-// The tests on the counts, in order, with so many handles and rows for findings; the number of pairs where all pass.
-fn count_pairs(
-    first: &[Line],
-    second: &[Line],
-    handles: usize,
-    found: usize,
-) -> Result<usize, CompareFault>
-    ensures { MatchResult result
-        (λ n. (n ≡ out_count first.now) × Counted first.now second.now handles found)
-        (λ e. CountsRefused first.now second.now handles found e) }
-{
-    if handles < first.len() || handles - first.len() < second.len() {
-        return Err(CompareFault::ShortList);
-    }
-    let pairs = count_outs(first);
-    if found < pairs {
-        return Err(CompareFault::FewFindings);
-    }
-    if count_outs(second) != pairs {
-        return Err(CompareFault::OutCounts);
-    }
-    Ok(pairs)
 }
 
 // Compares two netlists: lays both, the second one's handles after the first one's in the same list, and checks pair n, the

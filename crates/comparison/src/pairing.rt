@@ -4,15 +4,15 @@ ghost use Rattle.netlist.specs.Lines.{outs, out_count};
 ghost use Rattle.records.specs.Runs.{Run, Kept};
 ghost use Rattle.diagram.specs.Views.{view, room};
 ghost use Rattle.laying.specs.Lays.{blank_line};
-ghost use Rattle.comparison.specs.Compares.{at_pair, PairsChecked, pairs_event, no_pairs};
+ghost use Rattle.comparison.specs.Compares.{PairsChecked, pairs_event, no_pairs};
 
 use algebra::Algebra;
 use checking::{Checked, check};
-use diagram::{Memo, Row, Table, TableFault};
+use diagram::{Memo, Row, Table};
 use faults::PairRefusal;
-use netlist::Line;
+use netlist::{Kind, Line};
 
-const OUT: u8 = 8;
+const OUT: u8 = Kind::Out as u8;
 
 // The number of the next OUT line, from a line on, or the count of lines where there is none.
 fn next_out(lines: &[Line], from: usize) -> usize
@@ -28,16 +28,6 @@ fn next_out(lines: &[Line], from: usize) -> usize
         }
     }
     lines.len()
-}
-
-// What a pair came to, with its number at a fault.
-fn at_pair(r: Result<Checked, TableFault>, pair: usize) -> Result<Checked, PairRefusal>
-    ensures { result ≡ at_pair r pair }
-{
-    match r {
-        Ok(x) => Ok(x),
-        Err(fault) => Err(PairRefusal { pair, fault }),
-    }
 }
 
 // Checks pair n, the n-th OUT line of each netlist, into row n, from the handles of the lines.
@@ -67,7 +57,8 @@ pub(crate) fn check_pairs<G: Algebra, M: Memo>(
     for pair in 0..found.len() {
         let x = next_out(first, from_left);
         let y = next_out(second, from_right);
-        let checked = at_pair(check(table, algebra, memo, rows, left[x], right[y]), pair)?;
+        let checked = check(table, algebra, memo, rows, left[x], right[y])
+            .map_err(|fault| PairRefusal { pair, fault })?;
         found[pair] = checked;
         from_left = x + 1;
         from_right = y + 1;

@@ -8,14 +8,14 @@ mod calls;
 pub use calls::{replay, replay_apart};
 
 // So many lines of a list, from a place on; what lies past its end is left out.
-#[derive(Clone, Copy)]
+#[derive(Clone, Copy, PartialEq, Eq, Debug)]
 pub struct Span {
     pub from: usize,
     pub count: usize,
 }
 
 // One call, with any numbers as its arguments. Lay and compare take their lines from a list.
-#[derive(Clone, Copy)]
+#[derive(Clone, Copy, PartialEq, Eq, Debug)]
 pub enum Call {
     Input(u8),
     Constant(u8),
@@ -27,7 +27,7 @@ pub enum Call {
 }
 
 // What a call was told.
-#[derive(Clone, Copy)]
+#[derive(Clone, Copy, PartialEq, Eq, Debug)]
 pub enum Told {
     Handle(Result<u32, TableFault>),
     Check(Result<Checked, TableFault>),
@@ -36,7 +36,7 @@ pub enum Told {
 }
 
 // Why no call is made.
-#[derive(Clone, Copy)]
+#[derive(Clone, Copy, PartialEq, Eq, Debug)]
 pub enum ReplayFault {
     // the list for what the calls are told is shorter than the calls
     ShortList,

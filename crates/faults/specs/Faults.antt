@@ -1,14 +1,20 @@
 -- The numbers of the refusals of lay and compare, and the netlist and the line that are refused. Assumes nothing.
-use Rattle.std.specs.Prelude.{ℕ, Some, None, Ok, Err, Option, Result}
+use Rattle.std.specs.Prelude.{ℕ, Some, None, Option}
 use Rattle.netlist.specs.FaultNumbers.{line_fault_number}
+use Rattle.netlist.specs.declared.fault.Located.{Located}
+use Rattle.netlist.specs.declared.fault.CountFault.{CountFault}
+use Rattle.netlist.specs.declared.fault.CountFault.TheVariants.{ShortList as NoRoom, FewFindings as NoRows, OutCounts as Uneven}
 use Rattle.records.specs.Faults.{table_fault_number}
 use Rattle.faults.specs.declared.fault.LineReason.{LineReason}
 use Rattle.faults.specs.declared.fault.LineReason.TheVariants.{Line as OfLine, Table as OfTable}
-use Rattle.faults.specs.declared.fault.LineRefusal.{LineRefusal}
 use Rattle.faults.specs.declared.fault.LayFault.{LayFault}
 use Rattle.faults.specs.declared.fault.LayFault.TheVariants.{ShortList, Table, Line}
 use Rattle.faults.specs.declared.fault.CompareFault.{CompareFault}
 use Rattle.faults.specs.declared.fault.CompareFault.TheVariants.{ShortList as ShortHandles, FewFindings, OutCounts, Table as Untabled, First, Second, Pair}
+
+-- the line that is refused, and why
+abbrev pub LineRefusal : Type 0
+LineRefusal = Located LineReason
 
 abbrev pub line_reason_number : LineReason → ℕ
 line_reason_number (OfLine f) = line_fault_number f
@@ -52,7 +58,8 @@ compare_fault_line (First f) = lay_fault_line f
 compare_fault_line (Second f) = lay_fault_line f
 compare_fault_line (Pair e) = None
 
--- what a line came to, with its number at a fault
-abbrev pub at_line : {X : Type 0} → Result X LineReason → ℕ → Result X LineRefusal
-at_line (Ok x) k = Ok x
-at_line (Err f) k = Err (record { line = k; fault = f })
+-- what refuses the counts refuses the comparison
+abbrev pub of_counts : CountFault → CompareFault
+of_counts NoRoom = ShortHandles
+of_counts NoRows = FewFindings
+of_counts Uneven = OutCounts

@@ -2,13 +2,13 @@ ghost use Rattle.std.specs.Prelude.{◌≡◌};
 ghost use Rattle.faults.specs.declared.fault.LineReason.TheVariants as reasons;
 ghost use Rattle.faults.specs.declared.fault.LayFault.TheVariants as lays;
 ghost use Rattle.faults.specs.declared.fault.CompareFault.TheVariants as compares;
-ghost use Rattle.faults.specs.Faults.{line_reason_number, lay_fault_number, lay_fault_line, compare_fault_number, compare_fault_netlist, compare_fault_line, at_line};
+ghost use Rattle.faults.specs.Faults.{line_reason_number, lay_fault_number, lay_fault_line, compare_fault_number, compare_fault_netlist, compare_fault_line, of_counts};
 
-use netlist::LineFault;
+use netlist::{CountFault, LineFault, Located};
 use records::TableFault;
 
 // Why a line is refused: by its own fields, or by the table.
-#[derive(Clone, Copy)]
+#[derive(Clone, Copy, PartialEq, Eq, Debug)]
 pub enum LineReason {
     Line(LineFault),
     Table(TableFault),
@@ -24,6 +24,21 @@ impl LineReason {
             LineReason::Table(f) => f.number(),
         }
     }
+
+    // The refusal of a line for this reason.
+    pub fn at(self, line: usize) -> LineRefusal
+        ensures { result ≡ record { line = line; fault = self } }
+    {
+        LineRefusal { line, fault: self }
+    }
+}
+
+impl From<LineFault> for LineReason {
+    ghost from_gives = { λ e r. r ≡ reasons.Line e };
+
+    fn from(e: LineFault) -> LineReason {
+        LineReason::Line(e)
+    }
 }
 
 impl From<TableFault> for LineReason {
@@ -35,24 +50,10 @@ impl From<TableFault> for LineReason {
 }
 
 // The line of a netlist that is refused, and why.
-#[derive(Clone, Copy)]
-pub struct LineRefusal {
-    pub line: usize,
-    pub fault: LineReason,
-}
-
-// What a line came to, with its number at a fault.
-pub fn at_line<T>(r: Result<T, LineReason>, line: usize) -> Result<T, LineRefusal>
-    ensures { result ≡ at_line r line }
-{
-    match r {
-        Ok(x) => Ok(x),
-        Err(fault) => Err(LineRefusal { line, fault }),
-    }
-}
+pub type LineRefusal = Located<LineReason>;
 
 // Why a netlist is not laid, or not wholly.
-#[derive(Clone, Copy)]
+#[derive(Clone, Copy, PartialEq, Eq, Debug)]
 pub enum LayFault {
     // the list of handles is shorter than the lines
     ShortList,
@@ -93,14 +94,14 @@ impl From<LineRefusal> for LayFault {
 }
 
 // The pair of OUT lines that is refused, and why.
-#[derive(Clone, Copy)]
+#[derive(Clone, Copy, PartialEq, Eq, Debug)]
 pub struct PairRefusal {
     pub pair: usize,
     pub fault: TableFault,
 }
 
 // Why two netlists are not compared, or not wholly.
-#[derive(Clone, Copy)]
+#[derive(Clone, Copy, PartialEq, Eq, Debug)]
 pub enum CompareFault {
     // the list of handles is shorter than the lines of both netlists
     ShortList,
@@ -125,13 +126,12 @@ impl CompareFault {
             CompareFault::FewFindings => 43,
             CompareFault::OutCounts => 42,
             CompareFault::Table(f) => f.number(),
-            CompareFault::First(f) => f.number(),
-            CompareFault::Second(f) => f.number(),
+            CompareFault::First(f) | CompareFault::Second(f) => f.number(),
             CompareFault::Pair(e) => e.fault.number(),
         }
     }
 
-    // The netlist that is refused, 1 or 2, or 0 for neither.
+    // The netlist that is refused, 1 or 2, or 0 for neither, as reports write it.
     pub fn netlist(self) -> u8
         ensures { result ≡ compare_fault_netlist self }
     {
@@ -147,9 +147,20 @@ impl CompareFault {
         ensures { result ≡ compare_fault_line self }
     {
         match self {
-            CompareFault::First(f) => f.line(),
-            CompareFault::Second(f) => f.line(),
+            CompareFault::First(f) | CompareFault::Second(f) => f.line(),
             _ => None,
+        }
+    }
+}
+
+impl From<CountFault> for CompareFault {
+    ghost from_gives = { λ e r. r ≡ of_counts e };
+
+    fn from(e: CountFault) -> CompareFault {
+        match e {
+            CountFault::ShortList => CompareFault::ShortList,
+            CountFault::FewFindings => CompareFault::FewFindings,
+            CountFault::OutCounts => CompareFault::OutCounts,
         }
     }
 }

@@ -3,4 +3,4 @@
 
 mod fault;
 
-pub use fault::{CompareFault, LayFault, LineReason, LineRefusal, PairRefusal, at_line};
+pub use fault::{CompareFault, LayFault, LineReason, LineRefusal, PairRefusal};

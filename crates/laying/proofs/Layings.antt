@@ -17,8 +17,6 @@ use Rattle.records.proofs.Laying.{kept_lay_none, kept_refused_line}
 use Rattle.faults.specs.declared.fault.LineReason.{LineReason}
 use Rattle.faults.specs.declared.fault.LineReason.TheVariants.{Line as OfLine, Table as OfTable}
 use Rattle.faults.specs.declared.fault.LayFault.TheVariants.{Line as AtLine}
-use Rattle.faults.specs.declared.fault.LineRefusal.{LineRefusal}
-use Rattle.faults.specs.Faults.{at_line}
 use Rattle.laying.specs.Lays.{LineKept, Lined, reason_answer, lay_answers, RefusedLine, Written}
 
 -- the first k lines are laid
@@ -95,14 +93,3 @@ module _ {o : Ops} {room : ℕ} {s t : Store} {P Q : Pairs} {ls : List Line} {ol
 
   pub all_kept : (run : Run) → Kept o room run s P → Kept o room (lay ls (map told (take (length ls) new)) ∷ run) t Q
   all_kept run kept = subst (λ i. Kept o room (lay ls (map told (take i new)) ∷ run) t Q) all (laying.kept run kept)
-
--- what a line came to, from what it came to with its number
-pub line_ok : {X : Type 0} (r : Result X LineReason) (k : ℕ) (x : X) → Ok x ≡ at_line r k → r ≡ Ok x
-line_ok (Ok y) k x e = cc
-line_ok (Err f) k x e = absurd (let z : ◌≡◌ {A = ℕ} 0 1 = cc in omega arith)
-
-pub line_err : {X : Type 0} (r : Result X LineReason) (k : ℕ) (d : LineRefusal) → Err d ≡ at_line r k → (r ≡ Err d.fault) × (d ≡ record { line = k; fault = d.fault })
-line_err (Ok y) k d e = absurd (let z : ◌≡◌ {A = ℕ} 0 1 = cc in omega arith)
-line_err (Err f) k d e =
-    let same : d ≡ record { line = k; fault = f } = cc in
-    (ap Err (sym (ap (λ x. x.fault) same)), same ∙ ap (λ x. record { line = k; fault = x }) (sym (ap (λ x. x.fault) same)))

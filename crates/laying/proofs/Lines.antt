@@ -6,6 +6,10 @@ use Rattle.std.proofs.lemmas.List.{get_or-map, get_or-take, length-take-le}
 use Rattle.algebra.specs.Ops.{Ops, known}
 use Rattle.algebra.specs.Laws.{Laws}
 use Rattle.netlist.specs.declared.line.Line.{Line}
+use Rattle.netlist.specs.declared.kind.Kind.{Kind}
+use Rattle.netlist.specs.declared.kind.Kind.TheVariants.{Input, Const, Not, And, Or, IfAnd, IfOr, Wire, Out}
+use Rattle.netlist.specs.declared.kind.UnknownKind.{UnknownKind}
+use Rattle.netlist.specs.Kinds.{kind_number, kind_of, KindOf}
 use Rattle.netlist.specs.declared.fault.LineFault.{LineFault}
 use Rattle.netlist.specs.declared.fault.LineFault.TheVariants.{NoSuchKind, NoSuchInput, NoSuchCode, NotEarlier}
 use Rattle.netlist.specs.Signals.{Signal, input, constant, turned, joined}
@@ -51,9 +55,44 @@ known_operator o k e a b c d =
     (λ v. absurd (omega arith))
     (cases_eq k 7)) (cases_eq k 6)) (cases_eq k 5)) (cases_eq k 4)) (cases_eq k 3)
 
+-- the kind of a number
+kind_below : (k : ℕ) → k < 9 → (kind : Kind) × (kind_of k ≡ Some kind) × (k ≡ kind_number kind)
+kind_below k small =
+    ⊎_elim (λ is. (Input, ap kind_of is, is))
+    (λ a. ⊎_elim (λ is. (Const, ap kind_of is, is))
+    (λ b. ⊎_elim (λ is. (Not, ap kind_of is, is))
+    (λ x. ⊎_elim (λ is. (And, ap kind_of is, is))
+    (λ y. ⊎_elim (λ is. (Or, ap kind_of is, is))
+    (λ z. ⊎_elim (λ is. (IfAnd, ap kind_of is, is))
+    (λ u. ⊎_elim (λ is. (IfOr, ap kind_of is, is))
+    (λ v. ⊎_elim (λ is. (Wire, ap kind_of is, is))
+    (λ w. let is : k ≡ 8 = omega arith in (Out, ap kind_of is, is))
+    (cases_eq k 7)) (cases_eq k 6)) (cases_eq k 5)) (cases_eq k 4)) (cases_eq k 3)) (cases_eq k 2)) (cases_eq k 1)) (cases_eq k 0)
+
+pub operator_between : (kind : Kind) → (kind ≡ And) ⊎ ((kind ≡ Or) ⊎ ((kind ≡ IfAnd) ⊎ ((kind ≡ IfOr) ⊎ (kind ≡ Wire)))) → (2 < kind_number kind) × (kind_number kind < 8)
+operator_between kind (inl e) = let n : kind_number kind ≡ 3 = ap kind_number e in (omega arith, omega arith)
+operator_between kind (inr (inl e)) = let n : kind_number kind ≡ 4 = ap kind_number e in (omega arith, omega arith)
+operator_between kind (inr (inr (inl e))) = let n : kind_number kind ≡ 5 = ap kind_number e in (omega arith, omega arith)
+operator_between kind (inr (inr (inr (inl e)))) = let n : kind_number kind ≡ 6 = ap kind_number e in (omega arith, omega arith)
+operator_between kind (inr (inr (inr (inr e)))) = let n : kind_number kind ≡ 7 = ap kind_number e in (omega arith, omega arith)
+
 module _ (o : Ops) (n k : ℕ) (l : Line) (e : line_fault o n k l ≡ None) where
   kind_passed : kind_known o l.kind ≡ true
   kind_passed = (not_refused (kind_known o l.kind) NoSuchKind _ e).0
+
+  kind_here : (kind : Kind) × (kind_of l.kind ≡ Some kind) × (l.kind ≡ kind_number kind)
+  kind_here = kind_below l.kind (ltb-true l.kind 9 (both_true (ltb l.kind 9) _ kind_passed).0)
+
+  pub kind_there : (r : Result Kind UnknownKind) → KindOf l.kind r → results.is_ok r ≡ true
+  kind_there (Ok kind) found = refl
+  kind_there (Err x) found = let there = kind_here.1 in cc
+
+  pub kind_is : (r : Result Kind UnknownKind) (kind : Kind) → KindOf l.kind r → r ≡ Ok kind → l.kind ≡ kind_number kind
+  kind_is r kind found ok =
+      let there = kind_here.1 in
+      let is : kind_of l.kind ≡ Some kind = subst (KindOf l.kind) ok found in
+      let same : kind_here.0 ≡ kind = cc in
+      kind_here.2 ∙ ap kind_number same
 
   pub input_inside : l.kind ≡ 0 → l.first < n
   input_inside is =

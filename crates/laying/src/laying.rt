@@ -9,17 +9,8 @@ ghost use Rattle.laying.specs.Lays.{TableRefuses, line_answer, LineKept, Lined, 
 
 use algebra::Algebra;
 use diagram::{Memo, Row, Table, TableFault};
-use faults::{LayFault, LineReason, at_line};
-use netlist::{Line, fault_of};
-
-// The numbers of the kinds that are no operators.
-const INPUT: u8 = 0;
-
-const CONST: u8 = 1;
-
-const NOT: u8 = 2;
-
-const OUT: u8 = 8;
+use faults::{LayFault, LineReason};
+use netlist::{Kind, Line, check_line};
 
 // The handle of a line that passed its own tests, from those of the lines before it.
 fn make_line<G: Algebra, M: Memo>(
@@ -40,27 +31,17 @@ fn make_line<G: Algebra, M: Memo>(
     ensures room { room table.new ≡ room table.old }
     ensures kept { LineKept G.ops (room table.old) (view table.old) (view table.new) (M.recalls memo.old) (M.recalls memo.new) (take number handles.now) line (answer_of result) }
 {
-    if line.kind == INPUT {
-        return table.input(algebra, memo, line.first as u8);
+    match Kind::try_from(line.kind).unwrap() {
+        Kind::Input => table.input(algebra, memo, line.first as u8),
+        Kind::Const => table.constant(algebra, line.first as u8),
+        Kind::Not => table.turn(algebra, memo, rows, handles[line.first as usize]),
+        Kind::Out => Ok(handles[line.first as usize]),
+        Kind::And | Kind::Or | Kind::IfAnd | Kind::IfOr | Kind::Wire => {
+            let x = handles[line.first as usize];
+            let y = handles[line.second as usize];
+            table.join(algebra, memo, rows, line.kind, x, y)
+        }
     }
-    if line.kind == CONST {
-        return table.constant(algebra, line.first as u8);
-    }
-    let x = handles[line.first as usize];
-    if line.kind == OUT {
-        return Ok(x);
-    }
-    if line.kind == NOT {
-        return table.turn(algebra, memo, rows, x);
-    }
-    table.join(
-        algebra,
-        memo,
-        rows,
-        line.kind,
-        x,
-        handles[line.second as usize],
-    )
 }
 
 // The handle of a line: its own tests come first, then those of the table.
@@ -79,11 +60,8 @@ fn lay_line<G: Algebra, M: Memo>(
     ensures room { room table.new ≡ room table.old }
     ensures kept { LineKept G.ops (room table.old) (view table.old) (view table.new) (M.recalls memo.old) (M.recalls memo.new) (take number handles.now) line (line_answer result) }
 {
-    if let Some(fault) = fault_of(algebra, table.inputs(), number, line) {
-        return Err(LineReason::Line(fault));
-    }
-    let h = make_line(table, algebra, memo, rows, number, line, handles)?;
-    Ok(h)
+    check_line(algebra, table.inputs(), number, line)?;
+    Ok(make_line(table, algebra, memo, rows, number, line, handles)?)
 }
 
 // Lays a netlist: writes a handle for each line, made from those of its operand lines. The handles before a refused line
@@ -108,10 +86,9 @@ pub fn lay<G: Algebra, M: Memo>(
         return Err(LayFault::Table(TableFault::FewRows));
     }
     for (number, line) in lines.iter().enumerate() {
-        let h = at_line(
-            lay_line(table, algebra, memo, rows, number, *line, handles),
-            number,
-        )?;
+        // by its number, since the line reads the handles so far
+        let h = lay_line(table, algebra, memo, rows, number, *line, handles)
+            .map_err(|fault| fault.at(number))?;
         handles[number] = h;
     }
     Ok(())

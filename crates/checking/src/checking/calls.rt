@@ -11,11 +11,10 @@ ghost use Rattle.checking.specs.Checks.{handle_of, check_event};
 
 use super::Checked;
 use crate::grading::grade_pair;
-use algebra::Algebra;
+use algebra::{Algebra, Op};
 use diagram::{Memo, Row, Table, TableFault};
 
-// The number of GRADE.
-const GRADE: u8 = 9;
+const GRADE: u8 = Op::Grade as u8;
 
 // Joins two handles with GRADE, and answers that handle with the finding of the two: the gravest grade, the first pattern
 // that has it, and both values there.

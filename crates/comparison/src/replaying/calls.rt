@@ -1,7 +1,7 @@
-ghost use Rattle.std.specs.Prelude.{◌≡◌, min, length, drop};
+ghost use Rattle.std.specs.Prelude.{◌≡◌, length, drop};
 ghost use Rattle.diagram.specs.Views.{view, room};
 ghost use Rattle.comparison.specs.Replays.{span_of, ReplayAnswer, replay_fault_number};
-ghost use Rattle.comparison.specs.States.{handles_for, rows_for, state, Called, ReplayCalls, ReplayLeaves};
+ghost use Rattle.comparison.specs.States.{handles_for, rows_for, state, Called, ReplayCalls, ReplayLeaves, ReplayLent};
 
 use super::{Call, ReplayFault, Span, Told};
 use crate::comparing::compare;
@@ -23,36 +23,37 @@ impl ReplayFault {
     }
 }
 
-// The lines of a span.
-fn part(lines: &[Line], span: Span) -> &[Line]
-    ensures { result.now ≡ span_of lines.now span }
-{
-    let from = span.from.min(lines.len());
-    let count = span.count.min(lines.len() - from);
-    &lines[from..from + count]
-}
-
-// How many of so many handles that are left a call takes: one for each of its lines.
-fn handles_taken(lines: &[Line], call: Call, left: usize) -> usize
-    ensures { result ≡ min (handles_for lines.now call) left }
-{
-    match call {
-        Call::Lay(span) => part(lines, span).len().min(left),
-        Call::Compare(a, b) => {
-            let first = part(lines, a).len().min(left);
-            first + part(lines, b).len().min(left - first)
-        }
-        _ => 0,
+impl Span {
+    // Its lines of a list.
+    pub fn of(self, lines: &[Line]) -> &[Line]
+        ensures { result.now ≡ span_of lines.now self }
+    {
+        let from = self.from.min(lines.len());
+        let count = self.count.min(lines.len() - from);
+        &lines[from..from + count]
     }
 }
 
-// How many of so many rows that are left a call takes: one for each pair.
-fn rows_taken(lines: &[Line], call: Call, left: usize) -> usize
-    ensures { result ≡ min (rows_for lines.now call) left }
-{
-    match call {
-        Call::Compare(a, _) => count_outs(part(lines, a)).min(left),
-        _ => 0,
+impl Call {
+    // How many handles it writes, one for each of its lines.
+    fn handles_for(self, lines: &[Line]) -> usize
+        ensures { result ≡ handles_for lines.now self }
+    {
+        match self {
+            Call::Lay(span) => span.of(lines).len(),
+            Call::Compare(a, b) => a.of(lines).len() + b.of(lines).len(),
+            _ => 0,
+        }
+    }
+
+    // How many findings it writes, one for each pair.
+    fn rows_for(self, lines: &[Line]) -> usize
+        ensures { result ≡ rows_for lines.now self }
+    {
+        match self {
+            Call::Compare(a, _) => count_outs(a.of(lines)),
+            _ => 0,
+        }
     }
 }
 
@@ -79,20 +80,64 @@ fn make_call<G: Algebra, M: Memo>(
         Call::Turn(x) => Told::Handle(table.turn(algebra, memo, rows, x)),
         Call::Join(op, x, y) => Told::Handle(table.join(algebra, memo, rows, op, x, y)),
         Call::Check(x, y) => Told::Check(check(table, algebra, memo, rows, x, y)),
-        Call::Lay(span) => Told::Lay(lay(table, algebra, memo, rows, part(lines, span), handles)),
+        Call::Lay(span) => Told::Lay(lay(table, algebra, memo, rows, span.of(lines), handles)),
         Call::Compare(a, b) => {
             Told::Compare(compare(
                 table,
                 algebra,
                 memo,
                 rows,
-                part(lines, a),
-                part(lines, b),
+                a.of(lines),
+                b.of(lines),
                 handles,
                 found,
             ))
         }
     }
+}
+
+// Starts a table and makes the calls in order, and writes what each was told. Each call is lent the lists for handles and
+// findings: whole, or, where the calls are kept apart, what the earlier ones left.
+fn replay_lending<G: Algebra, M: Memo, const APART: bool>(
+    table: &mut Table,
+    algebra: &G,
+    memo: &mut M,
+    rows: &mut [Row],
+    inputs: u8,
+    lines: &[Line],
+    calls: &[Call],
+    handles: &mut [u32],
+    found: &mut [Checked],
+    told: &mut [Told],
+) -> Result<(), ReplayFault>
+    ensures answer { ReplayAnswer G.ops (room table.old) inputs lines.now calls.now (view table.old) (view table.new) (M.recalls memo.old) (M.recalls memo.new) told.old told.new result }
+    ensures lent { ReplayLent APART G.ops (room table.old) inputs (length rows.old) lines.now calls.now (state (view table.old) (M.recalls memo.old) handles.old found.old) (state (view table.new) (M.recalls memo.new) handles.new found.new) told.old told.new result }
+    ensures room { room table.new ≡ room table.old }
+{
+    if told.len() < calls.len() {
+        return Err(ReplayFault::ShortList);
+    }
+    table.start(memo, inputs).map_err(ReplayFault::Table)?;
+    // where the entries begin that no call has for itself
+    let mut next = 0;
+    let mut row = 0;
+    for (number, call) in calls.iter().enumerate() {
+        told[number] = make_call(
+            table,
+            algebra,
+            memo,
+            rows,
+            lines,
+            &mut handles[next..],
+            &mut found[row..],
+            *call,
+        );
+        if APART {
+            next += call.handles_for(lines).min(handles.len() - next);
+            row += call.rows_for(lines).min(found.len() - row);
+        }
+    }
+    Ok(())
 }
 
 // Starts a table and makes the calls in order, each with any numbers as handles, and writes what each was told. Each lay and
@@ -113,16 +158,9 @@ pub fn replay<G: Algebra, M: Memo>(
     ensures calls { ReplayCalls G.ops (room table.old) inputs (length rows.old) lines.now calls.now (state (view table.old) (M.recalls memo.old) handles.old found.old) (state (view table.new) (M.recalls memo.new) handles.new found.new) told.old told.new result }
     ensures room { room table.new ≡ room table.old }
 {
-    if told.len() < calls.len() {
-        return Err(ReplayFault::ShortList);
-    }
-    if let Err(fault) = table.start(memo, inputs) {
-        return Err(ReplayFault::Table(fault));
-    }
-    for (number, call) in calls.iter().enumerate() {
-        told[number] = make_call(table, algebra, memo, rows, lines, handles, found, *call);
-    }
-    Ok(())
+    replay_lending::<G, M, false>(
+        table, algebra, memo, rows, inputs, lines, calls, handles, found, told,
+    )
 }
 
 // The same, but each lay and compare has its own handles and rows, after those of the earlier ones, for as long as the lists
@@ -143,27 +181,7 @@ pub fn replay_apart<G: Algebra, M: Memo>(
     ensures leaves { ReplayLeaves G.ops (room table.old) inputs (length rows.old) lines.now calls.now (state (view table.old) (M.recalls memo.old) handles.old found.old) (state (view table.new) (M.recalls memo.new) handles.new found.new) told.old told.new result }
     ensures room { room table.new ≡ room table.old }
 {
-    if told.len() < calls.len() {
-        return Err(ReplayFault::ShortList);
-    }
-    if let Err(fault) = table.start(memo, inputs) {
-        return Err(ReplayFault::Table(fault));
-    }
-    let mut next = 0;
-    let mut row = 0;
-    for (number, call) in calls.iter().enumerate() {
-        told[number] = make_call(
-            table,
-            algebra,
-            memo,
-            rows,
-            lines,
-            &mut handles[next..],
-            &mut found[row..],
-            *call,
-        );
-        next += handles_taken(lines, *call, handles.len() - next);
-        row += rows_taken(lines, *call, found.len() - row);
-    }
-    Ok(())
+    replay_lending::<G, M, true>(
+        table, algebra, memo, rows, inputs, lines, calls, handles, found, told,
+    )
 }

@@ -1,44 +1,31 @@
-use Rattle.std.proofs.Common.{◌^◌, get_or, sym, refl, ◌∙◌, arith}
+use Rattle.std.proofs.Common.{◌≡◌, ◌^◌, ◌<◌, get_or, sym, refl, ap, ◌∙◌, subst, rules, of_calls}
+use Rattle.std.specs.Iterator.Runs.{ItemsMapTo}
+use Rattle.std.specs.Slice.Iter.{iter_rest}
 use Rattle.std.proofs.lemmas.List.{get_or_default}
+use Rattle.netlist.specs.Findings.{first, first_below}
 use Rattle.records.specs.Stores.{value}
 use Rattle.diagram.specs.Views.{view}
-use Rattle.checking.proofs.Gravest.{gravest_found, gravest_more, gravest_all, grave_code, graded_finding}
+use Rattle.checking.specs.Gradings.{Graded, difference_of}
+use Rattle.checking.proofs.Gravest.{tried, gravest_tried, match_option, finds, grave_code, graded_finding}
 use Rattle.checking.proofs.grading.grade_pair.Goals as goal
-
-pub loop-grade-init : goal.loop-grade-init
-loop-grade-init g c graded = refl
-
-pub returns-in-Some : goal.returns-in-Some
-returns-in-Some g c graded =
-    let o = g.G.Algebra.ops in
-    let s = view c.args.table.now in
-    let vs = c.grave_order-order.result.now in
-    let i = c.loop-grade.grade-index in
-    let v = get_or vs i 0 in
-    let h = c.loop-grade-test.true in
-    let here = get_or_default vs i 0 v h in
-    let told = c.in-Some.ensures graded (grave_code g.G.Algebra.laws vs i v c.grave_order-order.ensures h here) in
-    sym (sym (graded_finding graded vs c.grave_order-order.ensures) ∙ c.loop-grade.invariant graded
-    ∙ gravest_found (2 ^ s.inputs) (value o s c.args.graded) (value o s c.args.x) (value o s c.args.y) vs i v h here c.in-Some.found told)
-
-pub loop-grade-preserved : goal.loop-grade-preserved
-loop-grade-preserved g c graded =
-    let o = g.G.Algebra.ops in
-    let s = view c.args.table.now in
-    let vs = c.grave_order-order.result.now in
-    let i = c.loop-grade.grade-index in
-    let v = get_or vs i 0 in
-    let h = c.loop-grade-test.true in
-    let here = get_or_default vs i 0 v h in
-    let told = c.in_default.ensures graded (grave_code g.G.Algebra.laws vs i v c.grave_order-order.ensures h here) in
-    c.loop-grade.invariant graded
-    ∙ gravest_more (2 ^ s.inputs) (value o s c.args.graded) (value o s c.args.x) (value o s c.args.y) vs i v h here told
 
 pub returns : goal.returns
 returns g c graded =
     let o = g.G.Algebra.ops in
     let s = view c.args.table.now in
-    let vs = c.grave_order-order.result.now in
-    let i = c.loop-grade.grade-index in
-    sym (sym (graded_finding graded vs c.grave_order-order.ensures) ∙ c.loop-grade.invariant graded
-    ∙ gravest_all (2 ^ s.inputs) (value o s c.args.graded) (value o s c.args.x) (value o s c.args.y) vs i (omega (arith, c.loop-grade-test.false)))
+    let vs = c.grave_order.result.now in
+    let same = c.grave_order.ensures in
+    let run = c.find_map.ensures.runs in
+    let p = run.0 in
+    let items = subst (ItemsMapTo p (λ y. y.now)) (ap iter_rest run.1 ∙ c.iter.ensures.rest) (c.iter.ensures.runs p p.seen) in
+    let v = value o s c.args.graded in
+    let left = value o s c.args.x in
+    let right = value o s c.args.y in
+    gravest_tried (2 ^ s.inputs) v left right vs c.find_map.result c.map_or.result
+        (finds p _ _ vs items (tried (2 ^ s.inputs) v left right vs) (λ a r f e. search rules)
+            (λ k x q h e called.
+                let told : Graded o s c.args.graded c.args.x c.args.y → x.now < o.count → q ≡ difference_of left right x.now (first s.inputs v x.now) = search (rules, of_calls) in
+                told graded (grave_code g.G.Algebra.laws vs k x.now same h (e ∙ get_or_default vs k 0 x.now h)) ∙ ap (λ w. difference_of left right w (first_below (2 ^ s.inputs) v w)) e)
+            c.find_map.result run.2)
+        (match_option _ c.find_map.result (λ d e. search (rules, of_calls)) c.map_or.ensures)
+    ∙ graded_finding graded vs same

@@ -1,4 +1,4 @@
-use Rattle.std.proofs.Common.{◌≡◌, ◌+◌, ◌-◌, ◌<◌, [], ◌∷◌, ◌++◌, map, length, take, drop, Ok, Err, sym, refl, ap, ◌∙◌, subst, ap₂, arith}
+use Rattle.std.proofs.Common.{◌≡◌, ◌+◌, ◌-◌, ◌<◌, [], ◌∷◌, ◌++◌, map, length, take, drop, Ok, Err, sym, refl, ap, ◌∙◌, subst, ap₂, arith, rules, of_calls}
 use borrow.Rule.Slice.PartMut.{put_mid, post_of}
 use Rattle.std.proofs.lemmas.List.{length-take-le}
 use Rattle.std.proofs.lemmas.Result.{err_from_is_err_and}
@@ -8,14 +8,15 @@ use Rattle.records.specs.Runs.{told, Run, lay, compare, Kept}
 use Rattle.diagram.specs.Views.{view, room}
 use Rattle.records.proofs.Adds.{grows_trans}
 use Rattle.records.proofs.Shapes.{well}
+use Rattle.faults.proofs.Lifts.{ok_from_map_err, err_from_map_err}
 use Rattle.faults.specs.declared.fault.CompareFault.TheVariants.{First, Second, Pair}
 use Rattle.laying.specs.Lays.{TableRefuses, lay_answers}
 use Rattle.comparison.specs.Compares.{parts_event, PartsCompared, no_pairs, pairs_event, second_part}
-use Rattle.comparison.proofs.Comparings.{first_ok, first_err, second_ok, second_err, laid_ok, laid_refused, refused_since, answers_all, one_laid, two_laid, front_first, back_first, rest_first, parts_moved, event_moved}
+use Rattle.comparison.proofs.Comparings.{laid_ok, laid_refused, refused_since, answers_all, one_laid, two_laid, front_first, back_first, rest_first, parts_moved, event_moved}
 use Rattle.comparison.proofs.comparing.compare_parts.Goals as goal
 
-pub returns-in_err-in_first : goal.returns-in_err-in_first
-returns-in_err-in_first g c =
+pub returns-in_err-map_err : goal.returns-in_err-map_err
+returns-in_err-map_err g c =
     let p = err_from_is_err_and c.from_residual.result c.from_residual.ensures.1 in
     let o = g.G.Algebra.ops in
     let n = room c.args.table.now in
@@ -35,9 +36,10 @@ returns-in_err-in_first g c =
     let old : take a xs ≡ take (a - 0) xs = ap (λ k. take k xs) (sym e0) in
     let H = hs ++ post_of 0 (a - 0) xs in
     let front : take a H ≡ hs = front_first a b (a - 0) xs hs e0 lu in
-    let err = first_err c.lay.result c.in_err-in_first.field-0.0 c.in_err-in_first.ensures in
+    let err = err_from_map_err _ _ c.lay.result c.in_err-map_err.field-0.0 c.in_err-map_err.ensures.cases in
     let d = err.0 in
-    let is : c.from_residual.result ≡ Err (First d) = p.1 ∙ ap Err (p.2 ∙ err.2) in
+    let made : c.in_err-map_err.field-0.0 ≡ First d = search (rules, of_calls) in
+    let is : c.from_residual.result ≡ Err (First d) = p.1 ∙ ap Err (p.2 ∙ made) in
     record {
       compared =
           parts_moved o s t ls ms (take a xs) (take (a - 0) xs) (take a H) hs (second_part ls ms xs) (second_part ls ms xs) (second_part ls ms H) (second_part ls ms xs) c.args.found.now c.args.found.now c.from_residual.result old front refl (back_first a b (a - 0) xs hs e0 lu)
@@ -52,9 +54,9 @@ returns-in_err-in_first g c =
           (subst (λ r. Kept o n (lay ls (lay_answers ls hs r) ∷ run) t Q) err.1 (c.lay.ensures.kept run kept))));
     }
 
-pub returns-in_err-in_second : goal.returns-in_err-in_second
-returns-in_err-in_second g c =
-    let p = err_from_is_err_and c.from_residual-in_err-in_second.result c.from_residual-in_err-in_second.ensures.1 in
+pub returns-in_err-map_err-2 : goal.returns-in_err-map_err-2
+returns-in_err-map_err-2 g c =
+    let p = err_from_is_err_and c.from_residual-in_err-map_err-2.result c.from_residual-in_err-map_err-2.ensures.1 in
     let o = g.G.Algebra.ops in
     let n = room c.args.table.now in
     let s = view c.args.table.now in
@@ -82,13 +84,14 @@ returns-in_err-in_second g c =
     let H = put_mid a (a + b - a) mid ks in
     let front : take a H ≡ hs = ap (λ k. take k H) (sym e0) ∙ front_part a b (a - 0) (a + b - a) xs hs ks e0 e1 lu lv in
     let back : take b (drop a H) ≡ ks = ap (λ k. take k (drop a H)) (sym e1) ∙ back_part a b (a - 0) (a + b - a) xs hs ks e0 e1 lu lv in
-    let one = first_ok c.lay.result c.in_ok-in_first.field-0 c.in_ok-in_first.ensures in
+    let one = ok_from_map_err _ c.lay.result tt c.in_ok-map_err.ensures.cases in
     let first = laid_ok o s t P Q (length c.args.rows.now) ls (take (a - 0) xs) hs long c.requires.rows c.lay.result one c.lay.ensures.laid in
     let enough : t.inputs < length c.lay.new.rows = (let e = first.1.inputs in omega (arith, c.requires.rows, c.lay.auto.rows)) in
-    let err = second_err c.lay-2.result c.in_err-in_second.field-0.0 c.in_err-in_second.ensures in
+    let err = err_from_map_err _ _ c.lay-2.result c.in_err-map_err-2.field-0.0 c.in_err-map_err-2.ensures.cases in
     let d = err.0 in
-    let r = c.from_residual-in_err-in_second.result in
-    let is : r ≡ Err (Second d) = p.1 ∙ ap Err (p.2 ∙ err.2) in
+    let made : c.in_err-map_err-2.field-0.0 ≡ Second d = search (rules, of_calls) in
+    let r = c.from_residual-in_err-map_err-2.result in
+    let is : r ≡ Err (Second d) = p.1 ∙ ap Err (p.2 ∙ made) in
     record {
       compared =
           parts_moved o s u ls ms (take a xs) (take (a - 0) xs) (take a H) hs (second_part ls ms xs) (take (a + b - a) (drop a mid)) (second_part ls ms H) ks c.args.found.now c.args.found.now r old front old2 back
@@ -137,10 +140,10 @@ check_pairs-requires g c =
     let H = put_mid a (a + b - a) mid ks in
     let front : take a H ≡ hs = ap (λ k. take k H) (sym e0) ∙ front_part a b (a - 0) (a + b - a) xs hs ks e0 e1 lu lv in
     let back : take b (drop a H) ≡ ks = ap (λ k. take k (drop a H)) (sym e1) ∙ back_part a b (a - 0) (a + b - a) xs hs ks e0 e1 lu lv in
-    let one = first_ok c.lay.result c.in_ok-in_first.field-0 c.in_ok-in_first.ensures in
+    let one = ok_from_map_err _ c.lay.result tt c.in_ok-map_err.ensures.cases in
     let first = laid_ok o s t P Q (length c.args.rows.now) ls (take (a - 0) xs) hs long c.requires.rows c.lay.result one c.lay.ensures.laid in
     let enough : t.inputs < length c.lay.new.rows = (let e = first.1.inputs in omega (arith, c.requires.rows, c.lay.auto.rows)) in
-    let two = second_ok c.lay-2.result c.in_ok-in_second.field-0 c.in_ok-in_second.ensures in
+    let two = ok_from_map_err _ c.lay-2.result tt c.in_ok-map_err-2.ensures.cases in
     let second = laid_ok o t u Q R (length c.lay.new.rows) ms (take (a + b - a) (drop a mid)) ks long2 enough c.lay-2.result two c.lay-2.ensures.laid in
     record {
       left = ap length (front_part a b (a - 0) (a + b - a) xs hs ks e0 e1 lu lv) ∙ lu;
@@ -180,12 +183,12 @@ returns-in_err-check_pairs g c =
     let H = put_mid a (a + b - a) mid ks in
     let front : take a H ≡ hs = ap (λ k. take k H) (sym e0) ∙ front_part a b (a - 0) (a + b - a) xs hs ks e0 e1 lu lv in
     let back : take b (drop a H) ≡ ks = ap (λ k. take k (drop a H)) (sym e1) ∙ back_part a b (a - 0) (a + b - a) xs hs ks e0 e1 lu lv in
-    let one = first_ok c.lay.result c.in_ok-in_first.field-0 c.in_ok-in_first.ensures in
+    let one = ok_from_map_err _ c.lay.result tt c.in_ok-map_err.ensures.cases in
     let first = laid_ok o s t P Q (length c.args.rows.now) ls (take (a - 0) xs) hs long c.requires.rows c.lay.result one c.lay.ensures.laid in
     let enough : t.inputs < length c.lay.new.rows = (let e = first.1.inputs in omega (arith, c.requires.rows, c.lay.auto.rows)) in
     let v = view c.check_pairs.new.table in
     let S = g.M.Memo.recalls c.check_pairs.new.memo in
-    let two = second_ok c.lay-2.result c.in_ok-in_second.field-0 c.in_ok-in_second.ensures in
+    let two = ok_from_map_err _ c.lay-2.result tt c.in_ok-map_err-2.ensures.cases in
     let second = laid_ok o t u Q R (length c.lay.new.rows) ms (take (a + b - a) (drop a mid)) ks long2 enough c.lay-2.result two c.lay-2.ensures.laid in
     let grows = grows_trans first.1 second.1 in
     let same = c.lay-2.ensures.room ∙ c.lay.ensures.room in
@@ -247,12 +250,12 @@ returns g c =
     let H = put_mid a (a + b - a) mid ks in
     let front : take a H ≡ hs = ap (λ k. take k H) (sym e0) ∙ front_part a b (a - 0) (a + b - a) xs hs ks e0 e1 lu lv in
     let back : take b (drop a H) ≡ ks = ap (λ k. take k (drop a H)) (sym e1) ∙ back_part a b (a - 0) (a + b - a) xs hs ks e0 e1 lu lv in
-    let one = first_ok c.lay.result c.in_ok-in_first.field-0 c.in_ok-in_first.ensures in
+    let one = ok_from_map_err _ c.lay.result tt c.in_ok-map_err.ensures.cases in
     let first = laid_ok o s t P Q (length c.args.rows.now) ls (take (a - 0) xs) hs long c.requires.rows c.lay.result one c.lay.ensures.laid in
     let enough : t.inputs < length c.lay.new.rows = (let e = first.1.inputs in omega (arith, c.requires.rows, c.lay.auto.rows)) in
     let v = view c.check_pairs.new.table in
     let S = g.M.Memo.recalls c.check_pairs.new.memo in
-    let two = second_ok c.lay-2.result c.in_ok-in_second.field-0 c.in_ok-in_second.ensures in
+    let two = ok_from_map_err _ c.lay-2.result tt c.in_ok-map_err-2.ensures.cases in
     let second = laid_ok o t u Q R (length c.lay.new.rows) ms (take (a + b - a) (drop a mid)) ks long2 enough c.lay-2.result two c.lay-2.ensures.laid in
     let grows = grows_trans first.1 second.1 in
     let same = c.lay-2.ensures.room ∙ c.lay.ensures.room in

@@ -1,11 +1,12 @@
-use Rattle.std.proofs.Common.{◌≡◌, ◌<◌, ◌≤◌, ◌∷◌, ◌++◌, length, Err, sym, refl, ap, ◌∙◌, subst, arith}
+use Rattle.std.proofs.Common.{◌≡◌, ◌<◌, ◌≤◌, ◌∷◌, ◌++◌, length, Err, sym, refl, ap, ◌∙◌, subst, arith, rules, of_calls}
 use Rattle.std.proofs.lemmas.Result.{err_from_is_err_and}
 use Rattle.netlist.specs.Lines.{out_count}
 use Rattle.records.specs.Runs.{Kept}
 use Rattle.diagram.specs.Views.{view, room}
 use Rattle.records.proofs.Shapes.{well}
+use Rattle.faults.proofs.Lifts.{ok_from_map_err, err_from_map_err}
 use Rattle.comparison.specs.Compares.{pairs_event, PairsChecked}
-use Rattle.comparison.proofs.Pairings.{PairDue, checking_none, out_inside, out_at, checked_more, checked_refused, refused_leaves, all_checked, pair_ok, pair_err}
+use Rattle.comparison.proofs.Pairings.{PairDue, checking_none, out_inside, out_at, checked_more, checked_refused, refused_leaves, all_checked}
 use Rattle.comparison.proofs.pairing.check_pairs.Goals as goal
 
 pub loop-pair-init : goal.loop-pair-init
@@ -21,13 +22,13 @@ next_out-y-requires g c = c.loop-pair.invariant.0.right_inside
 pub bounds-left-x : goal.bounds-left-x
 bounds-left-x g c =
     let inv = c.loop-pair.invariant.0 in
-    let inside = out_inside c.args.first.now c.args.left.now c.requires.left c.loop-pair.pair c.next_out-x.result (omega (arith, c.loop-pair-test.true, c.requires.room)) (sym (c.next_out-x.ensures.skipped c.args.left.now c.requires.left) ∙ inv.left_rest) in
+    let inside = out_inside c.args.first.now c.args.left.now c.requires.left c.loop-pair.pair-counter c.next_out-x.result (omega (arith, c.loop-pair-test.true, c.requires.room)) (sym (c.next_out-x.ensures.skipped c.args.left.now c.requires.left) ∙ inv.left_rest) in
     omega (arith, c.requires.left)
 
 pub bounds-right-y : goal.bounds-right-y
 bounds-right-y g c =
     let inv = c.loop-pair.invariant.0 in
-    let inside = out_inside c.args.second.now c.args.right.now c.requires.right c.loop-pair.pair c.next_out-y.result (omega (arith, c.loop-pair-test.true, c.requires.room, c.requires.even)) (sym (c.next_out-y.ensures.skipped c.args.right.now c.requires.right) ∙ inv.right_rest) in
+    let inside = out_inside c.args.second.now c.args.right.now c.requires.right c.loop-pair.pair-counter c.next_out-y.result (omega (arith, c.loop-pair-test.true, c.requires.room, c.requires.even)) (sym (c.next_out-y.ensures.skipped c.args.right.now c.requires.right) ∙ inv.right_rest) in
     omega (arith, c.requires.right)
 
 pub returns-in_err-checked : goal.returns-in_err-checked
@@ -38,7 +39,7 @@ returns-in_err-checked g c =
     let ms = c.args.second.now in
     let hs = c.args.left.now in
     let ks = c.args.right.now in
-    let k = c.loop-pair.pair in
+    let k = c.loop-pair.pair-counter in
     let x = c.next_out-x.result in
     let y = c.next_out-y.result in
     let inv = c.loop-pair.invariant in
@@ -48,16 +49,17 @@ returns-in_err-checked g c =
     let right = out_at ms ks c.requires.right k c.loop-pair.from_right y (omega (arith, inside, c.requires.even)) inv.0.right_rest (c.next_out-y.ensures.skipped ks c.requires.right) c.next_out-y.ensures.found in
     let told = c.check.ensures in
     let fits = subst (λ n. (view c.check.new.table).used ≤ n) told.room told.fits in
-    let e = c.in_err-checked.field-0.0 in
-    let err = pair_err c.check.result k e c.in_err-checked.ensures in
-    let is : c.from_residual.result ≡ Err (record { pair = k; fault = e.fault }) = p.1 ∙ ap Err (p.2 ∙ err.1) in
+    let err = err_from_map_err _ _ c.check.result c.in_err-checked.field-0.0 c.in_err-checked.ensures.cases in
+    let f = err.0 in
+    let made : c.in_err-checked.field-0.0 ≡ record { pair = k; fault = f } = search (rules, of_calls) in
+    let is : c.from_residual.result ≡ Err (record { pair = k; fault = f }) = p.1 ∙ ap Err (p.2 ∙ made) in
     record {
       checked = subst (λ r. PairsChecked g.G.Algebra.ops (view c.args.table.now) (view c.check.new.table) (c.args.left.now ++ c.args.right.now) c.args.found.now c.loop-pair.found r) (sym is)
-          (refused_leaves g.G.Algebra.laws inv.0 due (well c.loop-pair.table.well) (view c.check.new.table) (well c.check.new.table.well) (room c.loop-pair.table) inv.1 fits (g.M.Memo.recalls c.check.new.memo) (length c.loop-pair.rows) x y left right (omega (arith, c.requires.rows, c.loop-pair.auto.rows)) e.fault c.check.result err.0 told.shape c.requires.room);
+          (refused_leaves g.G.Algebra.laws inv.0 due (well c.loop-pair.table.well) (view c.check.new.table) (well c.check.new.table.well) (room c.loop-pair.table) inv.1 fits (g.M.Memo.recalls c.check.new.memo) (length c.loop-pair.rows) x y left right (omega (arith, c.requires.rows, c.loop-pair.auto.rows)) f c.check.result err.1 told.shape c.requires.room);
       room = told.room ∙ inv.1;
       kept = λ run kept.
           subst (λ r. Kept o (room c.args.table.now) (pairs_event ls ms hs ks c.loop-pair.found r ∷ run) (view c.check.new.table) (g.M.Memo.recalls c.check.new.memo)) (sym is)
-          (checked_refused g.G.Algebra.laws inv.0 due (well c.loop-pair.table.well) (view c.check.new.table) (well c.check.new.table.well) (room c.loop-pair.table) inv.1 fits (g.M.Memo.recalls c.check.new.memo) (length c.loop-pair.rows) x y left right e.fault c.check.result err.0 told.shape told.meaning run kept);
+          (checked_refused g.G.Algebra.laws inv.0 due (well c.loop-pair.table.well) (view c.check.new.table) (well c.check.new.table.well) (room c.loop-pair.table) inv.1 fits (g.M.Memo.recalls c.check.new.memo) (length c.loop-pair.rows) x y left right f c.check.result err.1 told.shape told.meaning run kept);
     }
 
 pub loop-pair-preserved : goal.loop-pair-preserved
@@ -67,7 +69,7 @@ loop-pair-preserved g c =
     let ms = c.args.second.now in
     let hs = c.args.left.now in
     let ks = c.args.right.now in
-    let k = c.loop-pair.pair in
+    let k = c.loop-pair.pair-counter in
     let x = c.next_out-x.result in
     let y = c.next_out-y.result in
     let inv = c.loop-pair.invariant in
@@ -78,7 +80,7 @@ loop-pair-preserved g c =
     let told = c.check.ensures in
     let fits = subst (λ n. (view c.check.new.table).used ≤ n) told.room told.fits in
     let d = c.in_ok-checked.checked in (
-      checked_more g.G.Algebra.laws inv.0 due (well c.loop-pair.table.well) (view c.check.new.table) (well c.check.new.table.well) (room c.loop-pair.table) inv.1 fits (g.M.Memo.recalls c.check.new.memo) (length c.loop-pair.rows) x y left right d c.check.result (pair_ok c.check.result k d c.in_ok-checked.ensures) told.shape told.meaning told.found,
+      checked_more g.G.Algebra.laws inv.0 due (well c.loop-pair.table.well) (view c.check.new.table) (well c.check.new.table.well) (room c.loop-pair.table) inv.1 fits (g.M.Memo.recalls c.check.new.memo) (length c.loop-pair.rows) x y left right d c.check.result (ok_from_map_err _ c.check.result d c.in_ok-checked.ensures.cases) told.shape told.meaning told.found,
       told.room ∙ inv.1,
     )
 

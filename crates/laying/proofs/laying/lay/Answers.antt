@@ -1,4 +1,4 @@
-use Rattle.std.proofs.Common.{◌≡◌, ◌≤◌, ◌∷◌, length, get_or, take, Ok, Err, sym, refl, ap, ◌∙◌, subst, arith}
+use Rattle.std.proofs.Common.{◌≡◌, ◌≤◌, ◌∷◌, length, get_or, take, Ok, Err, sym, refl, ap, ◌∙◌, subst, arith, rules, of_calls}
 use Rattle.std.proofs.lemmas.List.{get_or_default}
 use Rattle.std.proofs.lemmas.Result.{err_from_is_err_and}
 use Rattle.records.specs.Runs.{lay, Kept}
@@ -9,7 +9,8 @@ use Rattle.faults.specs.declared.fault.LayFault.TheVariants.{Line as AtLine}
 use Rattle.laying.specs.Lays.{LineKept, Lined, Laid, reason_answer, line_answer, lay_answers}
 use Rattle.netlist.specs.declared.line.Line.{Line}
 use Rattle.laying.specs.Lays.{blank_line}
-use Rattle.laying.proofs.Layings.{laying_none, laying_more, line_refused, refused_answered, laid_all, all_kept, line_ok, line_err}
+use Rattle.faults.proofs.Lifts.{ok_from_map_err, err_from_map_err}
+use Rattle.laying.proofs.Layings.{laying_none, laying_more, line_refused, refused_answered, laid_all, all_kept}
 use Rattle.laying.proofs.laying.lay.Goals as goal
 
 pub returns-then-handles-lines : goal.returns-then-handles-lines
@@ -47,7 +48,7 @@ returns-in_err-h g c =
     let s = view c.args.table.now in
     let P = g.M.Memo.recalls c.args.memo.now in
     let ls = c.args.lines.now in
-    let k = c.loop-number.number in
+    let k = c.loop-number.number-counter in
     let hs = c.loop-number.handles in
     let t = view c.loop-number.table in
     let u = view c.lay_line.new.table in
@@ -57,25 +58,26 @@ returns-in_err-h g c =
     let inv = c.loop-number.invariant in
     let told = c.lay_line.ensures in
     let l : Line = get_or ls k blank_line in
-    let err = line_err c.lay_line.result k c.in_err-h.field-0.0 c.in_err-h.ensures in
-    let f = c.in_err-h.field-0.0.fault in
-    let is : c.from_residual.result ≡ Err (AtLine (record { line = k; fault = f })) = p.1 ∙ ap Err (p.2 ∙ ap AtLine err.1) in
+    let err = err_from_map_err _ _ c.lay_line.result c.in_err-h.field-0.0 c.in_err-h.ensures.cases in
+    let f = err.0 in
+    let at : c.in_err-h.field-0.0 ≡ record { line = k; fault = f } = search (rules, of_calls) in
+    let is : c.from_residual.result ≡ Err (AtLine (record { line = k; fault = f })) = p.1 ∙ ap Err (p.2 ∙ ap AtLine at) in
     let long : length ls ≤ length hs = (let e = c.loop-number.auto in omega (arith, c.if-handles-lines.false)) in
     let here = get_or_default ls k blank_line l h in
-    let stays = line_refused inv.0 l h here long u R f (subst (λ r. Lined o t u Q R (take k hs) k l r) err.0 told.lined) in
+    let stays = line_refused inv.0 l h here long u R f (subst (λ r. Lined o t u Q R (take k hs) k l r) err.1 told.lined) in
     record {
       laid = subst (λ r. Laid o s u P R (length c.args.rows.now) ls c.args.handles.now hs r) (sym is) (c.if-handles-lines.false, omega (arith, c.inputs.ensures, c.if-rows-inputs.false), h, stays.0, stays.1);
       room = told.room ∙ inv.1;
       kept = λ run kept.
           subst (λ r. Kept o (room c.args.table.now) (lay ls (lay_answers ls hs r) ∷ run) u R) (sym is)
-          (refused_answered inv.0 l h here long u R f (subst (λ n. LineKept o n t u Q R (take k hs) l (reason_answer f)) inv.1 (subst (λ r. LineKept o (room c.loop-number.table) t u Q R (take k hs) l (line_answer r)) err.0 told.kept)) run kept);
+          (refused_answered inv.0 l h here long u R f (subst (λ n. LineKept o n t u Q R (take k hs) l (reason_answer f)) inv.1 (subst (λ r. LineKept o (room c.loop-number.table) t u Q R (take k hs) l (line_answer r)) err.1 told.kept)) run kept);
     }
 
 pub loop-number-preserved : goal.loop-number-preserved
 loop-number-preserved g c =
     let o = g.G.Algebra.ops in
     let ls = c.args.lines.now in
-    let k = c.loop-number.number in
+    let k = c.loop-number.number-counter in
     let hs = c.loop-number.handles in
     let t = view c.loop-number.table in
     let u = view c.lay_line.new.table in
@@ -86,7 +88,7 @@ loop-number-preserved g c =
     let told = c.lay_line.ensures in
     let x = c.in_ok-h.h in
     let l : Line = get_or ls k blank_line in
-    let ok = line_ok c.lay_line.result k x c.in_ok-h.ensures in (
+    let ok = ok_from_map_err _ c.lay_line.result x c.in_ok-h.ensures.cases in (
       laying_more inv.0 l h (get_or_default ls k blank_line l h) (let e = c.loop-number.auto in omega (arith, c.if-handles-lines.false)) u R x
           (subst (λ r. Lined o t u Q R (take k hs) k l r) ok told.lined)
           (subst (λ n. LineKept o n t u Q R (take k hs) l (line_answer (Ok x))) inv.1 (subst (λ r. LineKept o (room c.loop-number.table) t u Q R (take k hs) l (line_answer r)) ok told.kept)),

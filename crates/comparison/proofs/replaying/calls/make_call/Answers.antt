@@ -143,13 +143,13 @@ returns-in-Lay g c =
     let ls = span_of lines a in
     let r = c.lay.result in
     let told = c.lay.ensures in
-    let laid : Laid o s t P Q work ls hs hs' r = subst (λ z. Laid o s t P Q work z hs hs' r) c.part.ensures told.laid in
+    let laid : Laid o s t P Q work ls hs hs' r = subst (λ z. Laid o s t P Q work z hs hs' r) c.of.ensures told.laid in
     record {
       room = told.room;
       inputs = laid_inputs o s t P Q work ls hs hs' r laid;
       made =
           subst (λ z. Called o n work lines (state s P hs fs) z (Lay r) (state t Q hs' fs)) (sym c.in-Lay.is)
-          (runs.lay ls (lay_answers ls hs' r), lay a r laid, λ run kept. subst (λ z. Kept o n (runs.lay z (lay_answers z hs' r) ∷ run) t Q) c.part.ensures (told.kept run kept));
+          (runs.lay ls (lay_answers ls hs' r), lay a r laid, λ run kept. subst (λ z. Kept o n (runs.lay z (lay_answers z hs' r) ∷ run) t Q) c.of.ensures (told.kept run kept));
       handles = subst (λ z. drop (handles_for lines z) hs' ≡ drop (handles_for lines z) hs) (sym c.in-Lay.is) (laid_rest o s t P Q work ls hs hs' r laid);
       found = refl;
     }
@@ -176,8 +176,8 @@ returns-in-Compare g c =
     let r = c.compare.result in
     let told = c.compare.ensures in
     let compared : Compared o s t P Q work ls ms hs hs' fs fs' r =
-    subst (λ z. Compared o s t P Q work ls z hs hs' fs fs' r) c.part-in-Compare-2.ensures
-    (subst (λ z. Compared o s t P Q work z c.part-in-Compare-2.result.now hs hs' fs fs' r) c.part-in-Compare.ensures told.compared) in
+    subst (λ z. Compared o s t P Q work ls z hs hs' fs fs' r) c.of-in-Compare-2.ensures
+    (subst (λ z. Compared o s t P Q work z c.of-in-Compare-2.result.now hs hs' fs fs' r) c.of-in-Compare.ensures told.compared) in
     let rests = compared_rest o s t P Q work ls ms hs hs' fs fs' r compared in
     record {
       room = told.room;
@@ -187,8 +187,8 @@ returns-in-Compare g c =
             compare_event ls ms hs' fs' r,
             compare a b r compared,
             λ run kept.
-                subst (λ z. Kept o n (compare_event ls z hs' fs' r ∷ run) t Q) c.part-in-Compare-2.ensures
-                (subst (λ z. Kept o n (compare_event z c.part-in-Compare-2.result.now hs' fs' r ∷ run) t Q) c.part-in-Compare.ensures (told.kept run kept)),
+                subst (λ z. Kept o n (compare_event ls z hs' fs' r ∷ run) t Q) c.of-in-Compare-2.ensures
+                (subst (λ z. Kept o n (compare_event z c.of-in-Compare-2.result.now hs' fs' r ∷ run) t Q) c.of-in-Compare.ensures (told.kept run kept)),
           );
       handles = subst (λ z. drop (handles_for lines z) hs' ≡ drop (handles_for lines z) hs) (sym c.in-Compare.is) rests.0;
       found = subst (λ z. drop (rows_for lines z) fs' ≡ drop (rows_for lines z) fs) (sym c.in-Compare.is) rests.1;
