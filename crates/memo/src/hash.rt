@@ -2,6 +2,7 @@ ghost use Rattle.std.specs.Prelude.{◌≡◌, ◌≤◌};
 ghost use Rattle.memo.specs.Buckets.{bucket_of};
 
 // Which bucket of mask + 1 a key is in. A multiplicative hash: the middle bits depend on all lower bits of the key's parts.
+#[tactic(auto, unfolding(crate::specs::Buckets::bucket_of))]
 pub fn bucket(mask: usize, n: u8, x: u32, y: u32) -> usize
     ensures value { result ≡ bucket_of mask n x y }
     ensures within { result ≤ mask }
