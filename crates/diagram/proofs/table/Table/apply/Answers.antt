@@ -6,9 +6,6 @@ use Rattle.records.proofs.Shapes.{well}
 use Rattle.diagram.proofs.Fulls.{settled_shape, settled_means}
 use Rattle.diagram.proofs.table.Table.apply.Goals as goal
 
-pub settle-requires : goal.settle-requires
-settle-requires g c = omega (arith, c.used-used.ensures, c.walk-made.ensures.grows.more)
-
 pub returns : goal.returns
 returns g c =
     let o = g.G.Algebra.ops in

@@ -20,9 +20,6 @@ returns-then-input-inputs-clause-kept g c run =
     let why : input_refusal s c.args.input ≡ Some NoSuchInput = fails _ _ _ (le-ltb c.args.input s.inputs (omega (arith, c.inputs.ensures))) in
     kept_input g.G.Algebra.laws w w (table_fits c.args.self.now) P P run _ (Err NoSuchInput) (stopped s P _ NoSuchInput _ refl why) c.args.input (λ _ _. tt)
 
-pub settle-requires : goal.settle-requires
-settle-requires g c = omega (arith, c.used-used.ensures, c.make-made.ensures.grows.more)
-
 pub returns : goal.returns
 returns g c =
     let o = g.G.Algebra.ops in

@@ -12,22 +12,18 @@ use Rattle.records.proofs.Matter.{no_row, done_cleared, support_is}
 use Rattle.records.proofs.Lookups.{passed}
 use Rattle.diagram.proofs.table.Table.support.Goals as goal
 
-pub collect-requires : goal.collect-requires
-collect-requires g c =
+pub collect-requires-clause-done : goal.collect-requires-clause-done
+collect-requires-clause-done g c =
     let o = g.G.Algebra.ops in
     let s = view c.args.self.now in
     let h = c.args.h in
     let l = c.in_ok-check_lawful.ensures in
-    record {
-      within = lawful_within o s h l;
-      enough = omega (arith, c.fill.ensures.len);
-      done = done_cleared s 0 c.fill.new.self (λ k l.
-          let less : k < length c.args.rows.now = omega (arith, c.fill.ensures.len) in
-          ap (λ x. x.low) (c.fill.ensures.clones k no_row less refl) ∙ c.default.ensures.1.0);
-    }
+    done_cleared s 0 c.fill.new.self (λ k l.
+    let less : k < length c.args.rows.now = omega (arith, c.fill.ensures.len) in
+    ap (λ x. x.low) (c.fill.ensures.clones k no_row less refl) ∙ c.default.ensures.1.0)
 
-pub returns : goal.returns
-returns g c =
+pub returns-clause-meaning : goal.returns-clause-meaning
+returns-clause-meaning g c =
     let o = g.G.Algebra.ops in
     let s = view c.args.self.now in
     let h = c.args.h in
@@ -35,11 +31,6 @@ returns g c =
     let l = c.in_ok-check_lawful.ensures in
     let enough : ltb s.inputs n ≡ true = lt-ltb s.inputs n c.in_ok-check_rows.ensures in
     let passes : support_refusal o s n h ≡ None = passed (ltb s.inputs n) FewRows (test (lawful o s h) NoSuchHandle None) enough ∙ passed (lawful o s h) NoSuchHandle None l in
-    record {
-      refusal = sym passes;
-      kept = λ e. absurd (false≢true e);
-      covers = c.collect.ensures.collected.covers;
-      meaning = λ sound.
-          ap Ok (support_is g.G.Algebra.laws (well c.args.self.now.well) sound h c.collect.result l c.collect.type_inv c.collect.ensures.collected)
-          ∙ sym (ap (λ k. unless_refused k (support_of s.inputs (value o s h))) passes);
-    }
+    λ sound.
+    ap Ok (support_is g.G.Algebra.laws (well c.args.self.now.well) sound h c.collect.result l c.collect.type_inv c.collect.ensures.collected)
+    ∙ sym (ap (λ k. unless_refused k (support_of s.inputs (value o s h))) passes)
