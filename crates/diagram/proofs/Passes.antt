@@ -1,16 +1,15 @@
 -- Tests of a mask by one operation on bits. Assumes nothing.
-use Rattle.std.proofs.Common.{◌≡◌, ℕ, zero, suc, ◌+◌, ◌-◌, ◌/◌, ◌%◌, ◌^◌, ◌<◌, ◌≤◌, Bool, true, false, cond, not, ◌&&◌, ◌||◌, eqb, ltb, sym, refl, ap, ◌∙◌, ⊎_elim, add-one, arith, pow_pos}
+use Rattle.std.proofs.Common.{◌≡◌, ℕ, zero, suc, ◌+◌, ◌-◌, ◌/◌, ◌%◌, ◌^◌, ◌<◌, ◌≤◌, Bool, true, false, cond, not, ◌&&◌, ◌||◌, eqb, sym, refl, ap, ◌∙◌, ⊎_elim, add-one, arith, pow_pos}
 use native.Mathlib.Nat.{zero-div}
 use lib.Bits.{bit_and, bit_or, and_shr, and_mod, and_le_r, or_lt}
 use Rattle.std.proofs.lemmas.Nat.{pow_below}
-use Rattle.std.proofs.lemmas.Bool.{cases_lt, cases_Bool, cond-true, cond-false, cond_both, eqb-true, eqb-false, lt-ltb, le-ltb, eq-eqb, and_cases, or_cases, or_left, or_right, not-true, not_from_false}
+use Rattle.std.proofs.lemmas.Bool.{cases_lt, cases_Bool, cond-true, cond-false, cond_both, eqb-true, eqb-false, eq-eqb, and_cases, or_cases, or_left, or_right, not-true, not_from_false}
 use Rattle.std.proofs.lemmas.Bool.Decides.{same_from_decides}
 use Rattle.algebra.specs.Ops.{Ops}
 use Rattle.netlist.specs.Parts.{all_below}
-use Rattle.records.specs.declared.record.Record.{Record}
-use Rattle.records.specs.Stores.{Store, place, marked, up}
-use Rattle.records.specs.Rules.{settled_code, firm_code, settled_mask, firm_mask, may_mark, lawful}
-use Rattle.records.specs.Marks.{negate, turn_below, turn_mask, reach_of, union, leads_plain, lead, turns, kept}
+use Rattle.records.specs.Stores.{up}
+use Rattle.records.specs.Rules.{settled_code, firm_code, settled_mask, firm_mask}
+use Rattle.records.specs.Marks.{turn_below}
 use Rattle.records.specs.Supports.{mask_below}
 use Rattle.diagram.specs.Codes.{loose_codes, firm_codes}
 use Rattle.records.proofs.Bits.{same_bits}

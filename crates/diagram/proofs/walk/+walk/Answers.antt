@@ -1,14 +1,13 @@
-use Rattle.std.proofs.Common.{◌+◌, ◌≤◌, min, length, sym, refl, ap, ◌∙◌, subst, arith, rules}
+use Rattle.std.proofs.Common.{◌+◌, ◌≤◌, min, length, sym, ap, ◌∙◌, subst, arith, rules}
 use Rattle.std.proofs.lemmas.Bool.Decides.{when_true}
 use Rattle.memo.specs.Memos.{Puts}
 use Rattle.records.specs.Makings.{From}
 use Rattle.records.specs.Stores.{level}
 use Rattle.diagram.specs.Tasks.{number_of}
 use Rattle.diagram.specs.Views.{view, room}
-use Rattle.records.proofs.Adds.{grows_refl, grows_trans}
+use Rattle.records.proofs.Adds.{grows_trans}
 use Rattle.records.proofs.Descents.{moved_from, some_row, low_rows, high_rows, low_beyond, high_beyond}
 use Rattle.records.proofs.Halves.{halved}
-use Rattle.diagram.proofs.Telling.{short_result}
 use Rattle.records.proofs.Shapes.{well}
 use Rattle.records.proofs.Values.{within_grows}
 use Rattle.records.proofs.Walking.{recalled_result, shape_out, walked_out_low, walked_out_high, walked_out_made, walked_made}

@@ -1,4 +1,4 @@
-use Rattle.std.proofs.Common.{◌≡◌, not, refl, ap, ◌∙◌, arith}
+use Rattle.std.proofs.Common.{not, refl, ap}
 use Rattle.records.specs.Supports.{mask_below}
 use Rattle.records.specs.Rules.{settled_code, firm_code}
 use Rattle.diagram.proofs.Passes.{mask_more}

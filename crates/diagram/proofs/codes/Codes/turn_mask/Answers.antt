@@ -1,4 +1,4 @@
-use Rattle.std.proofs.Common.{◌≡◌, ◌^◌, cond, refl, ap, ◌∙◌, arith}
+use Rattle.std.proofs.Common.{◌^◌, cond, refl, ap, ◌∙◌}
 use lib.Bits.{bit_or}
 use Rattle.records.specs.Marks.{turn_below}
 use Rattle.diagram.proofs.Passes.{turn_more}

@@ -4,7 +4,7 @@ use Rattle.std.proofs.lemmas.Bool.{ltb-true, ltb-false}
 use Rattle.records.specs.Stores.{handle}
 use Rattle.records.specs.Supports.{Covers}
 use Rattle.diagram.specs.Views.{view}
-use Rattle.records.proofs.Shapes.{well, place_below}
+use Rattle.records.proofs.Shapes.{well}
 use Rattle.records.proofs.Matter.{collected_none, covers_constant, covers_marked, covers_rest, own_more, covers_place, collected_step, done_more, done_set}
 use Rattle.diagram.proofs.table.Table.+collect.Goals as goal
 

@@ -1,10 +1,9 @@
-use Rattle.std.proofs.Common.{◌-◌, ◌^◌, ◌<◌, ◌≤◌, sym, ◌∙◌, arith, pow_mono, rules}
-use Rattle.std.proofs.lemmas.Nat.{pow_pos}
+use Rattle.std.proofs.Common.{◌-◌, ◌^◌, ◌≤◌, sym, ◌∙◌, arith, pow_mono}
 use Rattle.std.proofs.lemmas.Bool.{ltb-true, ltb-false}
 use Rattle.records.specs.Stores.{level}
 use Rattle.diagram.specs.Views.{view}
 use Rattle.records.proofs.Shapes.{well}
-use Rattle.records.proofs.Finds.{constant_first, under_code, low_small, low_leads, high_small, high_leads}
+use Rattle.records.proofs.Finds.{constant_first, low_small, low_leads, high_small, high_leads}
 use Rattle.diagram.proofs.table.Table.+first_in_use.Goals as goal
 
 pub returns-then-is_constant-clause-first : goal.returns-then-is_constant-clause-first

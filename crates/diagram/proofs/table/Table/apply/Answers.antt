@@ -1,4 +1,4 @@
-use Rattle.std.proofs.Common.{Ok, Err, ◌∙◌, subst, arith}
+use Rattle.std.proofs.Common.{◌∙◌, subst}
 use Rattle.diagram.specs.Tasks.{number_of}
 use Rattle.diagram.specs.Views.{view, room}
 use Rattle.records.specs.Walks.{combined, WalkShape, WalkMeans}

@@ -1,13 +1,12 @@
-use Rattle.std.proofs.Common.{◌+◌, cond, Some, None, sym, refl, ap, ◌∙◌, subst}
+use Rattle.std.proofs.Common.{◌+◌, cond, Some, None, sym, ap, ◌∙◌, subst}
 use Rattle.std.specs.Result.{result_ok}
 use Rattle.records.specs.Stores.{handle}
 use Rattle.diagram.specs.Views.{view, room}
 use Rattle.records.specs.Steps.{Fits, Adds}
-use Rattle.records.specs.Makings.{From, Chosen, MakeShape, Making}
-use Rattle.records.proofs.Adds.{grows_refl}
+use Rattle.records.specs.Makings.{From, Chosen, Making}
 use Rattle.records.proofs.Shapes.{well}
 use Rattle.records.proofs.Makes.{kept_sides}
-use Rattle.records.proofs.Chooses.{beside, from_same, from_found, chosen_same, chosen, crowded}
+use Rattle.records.proofs.Chooses.{beside, from_found, chosen, crowded}
 use Rattle.diagram.proofs.Fulls.{refused}
 use Rattle.diagram.proofs.table.Table.make.Goals as goal
 

@@ -1,4 +1,3 @@
-use Rattle.std.proofs.Common.{Ok, ap}
 use Rattle.diagram.specs.Views.{view}
 use Rattle.records.proofs.Shapes.{well}
 use Rattle.records.proofs.Lookups.{reach_decides}

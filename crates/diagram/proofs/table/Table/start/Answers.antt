@@ -1,4 +1,4 @@
-use Rattle.std.proofs.Common.{ap, rules}
+use Rattle.std.proofs.Common.{ap}
 use Rattle.diagram.specs.Views.{view, room}
 use Rattle.records.proofs.Events.{kept_start}
 use Rattle.diagram.proofs.table.Table.start.Goals as goal

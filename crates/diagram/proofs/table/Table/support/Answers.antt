@@ -1,5 +1,5 @@
 use Rattle.std.proofs.Common.{◌≡◌, ◌<◌, true, ltb, length, None, Ok, sym, refl, ap, ◌∙◌, arith}
-use Rattle.std.proofs.lemmas.Bool.{lt-ltb, false≢true}
+use Rattle.std.proofs.lemmas.Bool.{lt-ltb}
 use Rattle.records.specs.declared.fault.TableFault.TheVariants.{FewRows, NoSuchHandle}
 use Rattle.records.specs.Rules.{lawful}
 use Rattle.records.specs.Faults.{test, support_refusal, unless_refused}
@@ -7,7 +7,6 @@ use Rattle.records.specs.Stores.{value}
 use Rattle.records.specs.Supports.{support_of}
 use Rattle.diagram.specs.Views.{view}
 use Rattle.records.proofs.Shapes.{well}
-use Rattle.records.proofs.Values.{lawful_within}
 use Rattle.records.proofs.Matter.{no_row, done_cleared, support_is}
 use Rattle.records.proofs.Lookups.{passed}
 use Rattle.diagram.proofs.table.Table.support.Goals as goal
