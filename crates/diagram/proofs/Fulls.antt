@@ -20,7 +20,7 @@ use Rattle.records.specs.Makings.{Chosen, Crowded}
 use Rattle.memo.specs.Memos.{Pairs}
 use Rattle.records.specs.Counts.{PartIn, DifferentParts}
 use Rattle.records.specs.Outcomes.{TruePairs, ResultOf, Overfull, ToldFull, Shape, Means, Meaning}
-use Rattle.records.specs.Walks.{combine, combined, RanOut}
+use Rattle.records.specs.Walks.{combined, RanOut}
 use Rattle.records.specs.Faults.{test}
 use Rattle.diagram.specs.Settles.{Settled}
 use Rattle.diagram.specs.Views.{view, room}

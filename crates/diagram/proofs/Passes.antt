@@ -1,16 +1,15 @@
 -- Tests of a mask by one operation on bits. Assumes nothing.
-use Rattle.std.proofs.Common.{◌≡◌, ℕ, zero, suc, ◌+◌, ◌-◌, ◌/◌, ◌%◌, ◌^◌, ◌<◌, ◌≤◌, Bool, true, false, cond, not, ◌&&◌, ◌||◌, eqb, ltb, sym, refl, ap, ◌∙◌, ⊎_elim, add-one, arith, pow_pos}
+use Rattle.std.proofs.Common.{◌≡◌, ℕ, zero, suc, ◌+◌, ◌-◌, ◌/◌, ◌%◌, ◌^◌, ◌<◌, ◌≤◌, Bool, true, false, cond, not, ◌&&◌, ◌||◌, eqb, sym, refl, ap, ◌∙◌, ⊎_elim, add-one, arith, pow_pos}
 use native.Mathlib.Nat.{zero-div}
 use lib.Bits.{bit_and, bit_or, and_shr, and_mod, and_le_r, or_lt}
 use Rattle.std.proofs.lemmas.Nat.{pow_below}
-use Rattle.std.proofs.lemmas.Bool.{cases_lt, cases_Bool, cond-true, cond-false, cond_both, eqb-true, eqb-false, lt-ltb, le-ltb, eq-eqb, and_cases, or_cases, or_left, or_right, not-true, not_from_false}
+use Rattle.std.proofs.lemmas.Bool.{cases_lt, cases_Bool, cond-true, cond-false, cond_both, eqb-true, eqb-false, eq-eqb, and_cases, or_cases, or_left, or_right, not-true, not_from_false}
 use Rattle.std.proofs.lemmas.Bool.Decides.{same_from_decides}
 use Rattle.algebra.specs.Ops.{Ops}
 use Rattle.netlist.specs.Parts.{all_below}
-use Rattle.records.specs.declared.record.Record.{Record}
-use Rattle.records.specs.Stores.{Store, place, marked, up}
-use Rattle.records.specs.Rules.{settled_code, firm_code, settled_mask, firm_mask, may_mark, lawful}
-use Rattle.records.specs.Marks.{negate, turn_below, turn_mask, reach_of, union, leads_plain, lead, turns, kept}
+use Rattle.records.specs.Stores.{up}
+use Rattle.records.specs.Rules.{settled_code, firm_code, settled_mask, firm_mask}
+use Rattle.records.specs.Marks.{turn_below}
 use Rattle.records.specs.Supports.{mask_below}
 use Rattle.diagram.specs.Codes.{loose_codes, firm_codes}
 use Rattle.records.proofs.Bits.{same_bits}
@@ -162,38 +161,3 @@ turn_more o m v u rest r e t d =
     ∙ ap (λ x. cond (up m v) (bit_or x (2 ^ u)) x) e
     ∙ ap (λ z. cond (up m v) (bit_or (turn_below o m v) (2 ^ z)) (turn_below o m v)) t
     ∙ ap (turn_below o m) (sym (add-one v))
-
--- whether a record is kept under NOT
-pub told_turns : (o : Ops) (s : Store) (low high a b m side : ℕ) (t : Bool) → a ≡ reach_of o s low → b ≡ reach_of o s high → m ≡ bit_or a b
-    → side ≡ cond (firm_mask o a) low high → t ≡ (may_mark o m && not (leads_plain o side)) → t ≡ turns o s low high
-told_turns o s low high a b m side t ea eb em es et =
-    let mask : m ≡ union o s low high = em ∙ ap (λ z. bit_or z b) ea ∙ ap (bit_or (reach_of o s low)) eb in
-    let first : side ≡ lead o s low high = es ∙ ap (λ z. cond (firm_mask o z) low high) ea in
-    et ∙ ap (λ z. may_mark o z && not (leads_plain o side)) mask ∙ ap (λ z. may_mark o (union o s low high) && not (leads_plain o z)) first
-
--- the record that is kept, in each case
-pub kept_plain : (o : Ops) (s : Store) (i low high a b m : ℕ) → turns o s low high ≡ false → a ≡ reach_of o s low → b ≡ reach_of o s high → m ≡ bit_or a b
-    → ◌≡◌ {A = Record} (record { input = i; low = low; high = high; reach = m }) (kept o s i low high)
-kept_plain o s i low high a b m e ea eb em =
-    let mask : m ≡ union o s low high = em ∙ ap (λ z. bit_or z b) ea ∙ ap (bit_or (reach_of o s low)) eb in
-    let f : Bool → Record = λ t. record { input = i; low = cond t (negate o s low) low; high = cond t (negate o s high) high; reach = cond t (turn_mask o (union o s low high)) (union o s low high) } in
-    ap (λ z. record { input = i; low = low; high = high; reach = z }) mask ∙ ap f (sym e)
-
-pub kept_turned : (o : Ops) (s : Store) (i low high a b m x y z : ℕ) → turns o s low high ≡ true → a ≡ reach_of o s low → b ≡ reach_of o s high → m ≡ bit_or a b
-    → x ≡ negate o s low → y ≡ negate o s high → z ≡ turn_mask o m
-    → ◌≡◌ {A = Record} (record { input = i; low = x; high = y; reach = z }) (kept o s i low high)
-kept_turned o s i low high a b m x y z e ea eb em ex ey ez =
-    let mask : m ≡ union o s low high = em ∙ ap (λ z. bit_or z b) ea ∙ ap (bit_or (reach_of o s low)) eb in
-    let f : Bool → Record = λ t. record { input = i; low = cond t (negate o s low) low; high = cond t (negate o s high) high; reach = cond t (turn_mask o (union o s low high)) (union o s low high) } in
-    let first : ◌≡◌ {A = Record} (record { input = i; low = x; high = y; reach = z }) (f true) = ap (λ u. record { input = i; low = u; high = y; reach = z }) ex ∙ ap (λ u. record { input = i; low = negate o s low; high = u; reach = z }) ey ∙ ap (λ u. record { input = i; low = negate o s low; high = negate o s high; reach = u }) (ez ∙ ap (turn_mask o) mask) in
-    first ∙ ap f (sym e)
-
--- a marked place in use is lawful where it may be marked
-pub told_lawful : (o : Ops) (s : Store) (h : ℕ) (b : Bool) → 16 ≤ h → place h < s.used → marked h ≡ true → b ≡ may_mark o (s.at (place h)).reach → b ≡ lawful o s h
-told_lawful o s h b large within mark e =
-    let m = may_mark o (s.at (place h)).reach in
-    e
-    ∙ sym
-    (cond-false (ltb h 16) (ltb h o.count) (ltb (place h) s.used && (not (marked h) || m)) (le-ltb h 16 large)
-    ∙ ap (λ z. z && (not (marked h) || m)) (lt-ltb (place h) s.used within)
-    ∙ ap (λ z. not z || m) mark)

@@ -12,7 +12,8 @@ mod reads;
 mod splits;
 
 // A table of records over some number of inputs. Its shape needs no algebra: sides differ and lie deeper and before
-// their record, and no key stands twice.
+// their record, and no key stands twice. Contracts see a table through `view` and `room` of specs/Views.antt, and no
+// `Model`: a store gives its records as a function of the place, which a model's value cannot hold.
 #[derive(Drop)]
 pub struct Table {
     inputs: u8,

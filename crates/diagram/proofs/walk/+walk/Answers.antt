@@ -1,14 +1,13 @@
-use Rattle.std.proofs.Common.{◌+◌, ◌≤◌, min, length, sym, refl, ap, ◌∙◌, subst, arith, rules}
+use Rattle.std.proofs.Common.{◌+◌, ◌≤◌, min, length, sym, ap, ◌∙◌, subst, arith, rules}
 use Rattle.std.proofs.lemmas.Bool.Decides.{when_true}
 use Rattle.memo.specs.Memos.{Puts}
 use Rattle.records.specs.Makings.{From}
 use Rattle.records.specs.Stores.{level}
 use Rattle.diagram.specs.Tasks.{number_of}
 use Rattle.diagram.specs.Views.{view, room}
-use Rattle.records.proofs.Adds.{grows_refl, grows_trans}
+use Rattle.records.proofs.Adds.{grows_trans}
 use Rattle.records.proofs.Descents.{moved_from, some_row, low_rows, high_rows, low_beyond, high_beyond}
 use Rattle.records.proofs.Halves.{halved}
-use Rattle.diagram.proofs.Telling.{short_result}
 use Rattle.records.proofs.Shapes.{well}
 use Rattle.records.proofs.Values.{within_grows}
 use Rattle.records.proofs.Walking.{recalled_result, shape_out, walked_out_low, walked_out_high, walked_out_made, walked_made}
@@ -17,29 +16,13 @@ use Rattle.diagram.proofs.walk.+walk.Goals as goal
 pub split_at_mut-own-requires : goal.split_at_mut-own-requires
 split_at_mut-own-requires g t c = some_row (well c.args.table.now.well) c.args.task.x c.args.task.y (length c.args.rows.now) c.requires.x c.requires.rows
 
-pub returns-in-Some : goal.returns-in-Some
-returns-in-Some g t c =
-    let s = view c.args.table.now in
-    let short = c.in-Some.ensures in
-    record {
-      grows = grows_refl s;
-      room = refl {a = room c.args.table.now};
-      shape = short.from;
-      meaning = short_result g.G.Algebra.ops s (g.M.Memo.recalls c.args.memo.now) (number_of c.args.task.operation) c.args.task.x c.args.task.y c.in-Some.h short;
-    }
-
-pub returns-then-is_from : goal.returns-then-is_from
-returns-then-is_from g t c =
+pub returns-then-is_from-clause-meaning : goal.returns-then-is_from-clause-meaning
+returns-then-is_from-clause-meaning g t c =
     let o = g.G.Algebra.ops in
     let s = view c.args.table.now in
     let r : From s c.min-input.result c.in-Some-get.h = when_true _ (Unit {0}) c.if-is_from.true c.is_from.ensures in
-    record {
-      grows = grows_refl s;
-      room = refl {a = room c.args.table.now};
-      shape = moved_from s _ _ c.in-Some-get.h (let a = c.min-input.ensures in let b = c.level.ensures in let d = c.level-2.ensures in cc) r;
-      meaning = λ sound pairs lx ly.
-          recalled_result o s (g.M.Memo.recalls c.args.memo.now) (number_of c.args.task.operation) c.args.task.x c.args.task.y c.in-Some-get.h (sym (c.get.ensures ∙ ap (λ k. g.M.Memo.recalls c.args.memo.now k c.args.task.x c.args.task.y) c.number-number.ensures) ∙ c.in-Some-get.is) sound pairs;
-    }
+    λ sound pairs lx ly.
+    recalled_result o s (g.M.Memo.recalls c.args.memo.now) (number_of c.args.task.operation) c.args.task.x c.args.task.y c.in-Some-get.h (sym (c.get.ensures ∙ ap (λ k. g.M.Memo.recalls c.args.memo.now k c.args.task.x c.args.task.y) c.number-number.ensures) ∙ c.in-Some-get.is) sound pairs
 
 pub walk-requires : goal.walk-requires
 walk-requires g t c κs within =

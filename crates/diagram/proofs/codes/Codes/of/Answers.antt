@@ -1,4 +1,4 @@
-use Rattle.std.proofs.Common.{◌≡◌, not, refl, ap, ◌∙◌, arith}
+use Rattle.std.proofs.Common.{not, refl, ap}
 use Rattle.records.specs.Supports.{mask_below}
 use Rattle.records.specs.Rules.{settled_code, firm_code}
 use Rattle.diagram.proofs.Passes.{mask_more}
@@ -15,12 +15,3 @@ loop-v-preserved g c =
       mask_more (λ v. not (settled_code o v)) v c.loop-v.loose c.with-loose.result (not c.is_settled_code.result) c.loop-v.invariant.0 (ap not c.is_settled_code.ensures) c.with-loose.ensures,
       mask_more (firm_code o) v c.loop-v.firm c.with-firm.result c.is_firm_code.result c.loop-v.invariant.1 c.is_firm_code.ensures c.with-firm.ensures,
     )
-
-pub invariant_of-result : goal.invariant_of-result
-invariant_of-result g c =
-    let o = g.G.Algebra.ops in
-    let last : c.loop-v.v ≡ 16 = omega arith in
-    record {
-      loose_is = c.loop-v.invariant.0 ∙ ap (mask_below (λ v. not (settled_code o v))) last;
-      firm_is = c.loop-v.invariant.1 ∙ ap (mask_below (firm_code o)) last;
-    }

@@ -1,4 +1,4 @@
-use Rattle.std.proofs.Common.{◌≡◌, ◌^◌, cond, refl, ap, ◌∙◌, arith}
+use Rattle.std.proofs.Common.{◌^◌, cond, refl, ap, ◌∙◌}
 use lib.Bits.{bit_or}
 use Rattle.records.specs.Marks.{turn_below}
 use Rattle.diagram.proofs.Passes.{turn_more}
@@ -8,15 +8,7 @@ pub loop-v-init : goal.loop-v-init
 unfolding turn_below
 loop-v-init g c = refl
 
-pub with-turned-requires : goal.with-turned-requires
-with-turned-requires g c = omega (arith, c.turn.ensures, g.G.Algebra.laws.turn_below c.loop-v.v, g.G.Algebra.laws.sixteen_at_most)
-
 pub loop-v-preserved : goal.loop-v-preserved
 loop-v-preserved g c =
     turn_more g.G.Algebra.ops c.args.mask c.loop-v.v c.turn.result c.loop-v.turned c.with-turned.result c.loop-v.invariant c.turn.ensures
     (c.with-turned.ensures ∙ ap (λ b. cond b (bit_or c.loop-v.turned (2 ^ c.turn.result)) c.loop-v.turned) c.is_up.ensures)
-
-pub returns : goal.returns
-returns g c =
-    let last : c.loop-v.v ≡ 16 = omega arith in
-    c.loop-v.invariant ∙ ap (turn_below g.G.Algebra.ops c.args.mask) last

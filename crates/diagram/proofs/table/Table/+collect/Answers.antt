@@ -4,28 +4,18 @@ use Rattle.std.proofs.lemmas.Bool.{ltb-true, ltb-false}
 use Rattle.records.specs.Stores.{handle}
 use Rattle.records.specs.Supports.{Covers}
 use Rattle.diagram.specs.Views.{view}
-use Rattle.records.proofs.Shapes.{well, place_below}
+use Rattle.records.proofs.Shapes.{well}
 use Rattle.records.proofs.Matter.{collected_none, covers_constant, covers_marked, covers_rest, own_more, covers_place, collected_step, done_more, done_set}
 use Rattle.diagram.proofs.table.Table.+collect.Goals as goal
 
-pub returns-then-is_constant : goal.returns-then-is_constant
-returns-then-is_constant t c =
+pub returns-then-is_constant-clause-collected : goal.returns-then-is_constant-clause-collected
+returns-then-is_constant-clause-collected t c =
     let s = view c.args.self.now in
     let h = c.args.h in
-    record {
-      collected = collected_none s h c.args.mask (covers_constant s h c.args.mask (ltb-true h 16 (sym c.is_constant.ensures ∙ c.if-is_constant.true)));
-      done = c.requires.done;
-    }
+    collected_none s h c.args.mask (covers_constant s h c.args.mask (ltb-true h 16 (sym c.is_constant.ensures ∙ c.if-is_constant.true)))
 
-pub row_of-row-requires : goal.row_of-row-requires
-row_of-row-requires t c =
-    let h = c.args.h in
-    let large = ltb-false h 16 (sym c.is_constant.ensures ∙ c.if-is_constant.false) in
-    let used = place_below h (view c.args.self.now).used large c.requires.within in
-    record { place = omega arith; input = c.record_of-record.ensures.placed.within; enough = c.requires.enough }
-
-pub returns-then-rows-row : goal.returns-then-rows-row
-returns-then-rows-row t c =
+pub returns-then-rows-row-clause-collected : goal.returns-then-rows-row-clause-collected
+returns-then-rows-row-clause-collected t c =
     let s = view c.args.self.now in
     let h = c.args.h in
     let m = c.args.mask in
@@ -34,29 +24,23 @@ returns-then-rows-row t c =
     let large = ltb-false h 16 (sym c.is_constant.ensures ∙ c.if-is_constant.false) in
     let less : k < length rows = c.row_of-row.ensures in
     let bare = c.if-rows-row.true ∙ c.handle_of-bare.ensures ∙ ap handle c.place_of-place.ensures in
-    record {
-      collected = collected_none s h m (covers_marked (well c.args.self.now.well) h m large c.requires.within (subst (Covers s m) bare (c.requires.done k less)));
-      done = c.requires.done;
-    }
+    collected_none s h m (covers_marked (well c.args.self.now.well) h m large c.requires.within (subst (Covers s m) bare (c.requires.done k less)))
 
-pub has_rest-requires : goal.has_rest-requires
-has_rest-requires t c =
+pub has_rest-requires-clause-few : goal.has_rest-requires-clause-few
+has_rest-requires-clause-few t c =
     let few = (well c.args.self.now.well).few in
     let inside = c.record_of-record.ensures.placed.within in
-    record { inside = omega arith; few = omega arith }
+    omega arith
 
-pub returns-then-has_rest : goal.returns-then-has_rest
-returns-then-has_rest t c =
+pub returns-then-has_rest-clause-collected : goal.returns-then-has_rest-clause-collected
+returns-then-has_rest-clause-collected t c =
     let s = view c.args.self.now in
     let h = c.args.h in
     let m = c.args.mask in
     let large = ltb-false h 16 (sym c.is_constant.ensures ∙ c.if-is_constant.false) in
-    record {
-      collected = collected_none s h m
-          (covers_rest (well c.args.self.now.well) h m 0 0 0 c.record_of-record.result large c.requires.within c.record_of-record.ensures.read
-          (λ i l d. c.has_rest.ensures c.if-has_rest.true i l (omega arith)));
-      done = c.requires.done;
-    }
+    collected_none s h m
+    (covers_rest (well c.args.self.now.well) h m 0 0 0 c.record_of-record.result large c.requires.within c.record_of-record.ensures.read
+    (λ i l d. c.has_rest.ensures c.if-has_rest.true i l (omega arith)))
 
 pub overflow_shl-own : goal.overflow_shl-own
 overflow_shl-own t c =
@@ -78,15 +62,6 @@ collect-low-requires t c =
     let small : r.input < 64 = omega (arith, w.few, c.record_of-record.ensures.placed.within) in
     let own = bit_or m ((1 * 2 ^ r.input) % 2 ^ 64) in
     (search rules, (omega arith, (c.requires.enough, done_more s m own c.args.rows.now (own_more w h m own 0 0 r large u c.record_of-record.ensures.read small refl) c.requires.done)))
-
-pub collect-both-requires : goal.collect-both-requires
-collect-both-requires t c =
-    let h = c.args.h in
-    let large = ltb-false h 16 (sym c.is_constant.ensures ∙ c.if-is_constant.false) in
-    let u = c.requires.within in
-    let before = c.record_of-record.ensures.placed.high_before in
-    let less : c.record_of-record.result.high < h = omega arith in
-    (search rules, (omega arith, (omega (arith, c.requires.enough, c.collect-low.auto.rows), c.collect-low.ensures.done)))
 
 pub returns : goal.returns
 returns t c =

@@ -1,33 +1,14 @@
-use Rattle.std.proofs.Common.{◌-◌, ◌^◌, ◌<◌, ◌≤◌, sym, ◌∙◌, arith, pow_mono, rules}
-use Rattle.std.proofs.lemmas.Nat.{pow_pos}
+use Rattle.std.proofs.Common.{◌-◌, ◌^◌, ◌≤◌, sym, ◌∙◌, arith, pow_mono}
 use Rattle.std.proofs.lemmas.Bool.{ltb-true, ltb-false}
 use Rattle.records.specs.Stores.{level}
 use Rattle.diagram.specs.Views.{view}
 use Rattle.records.proofs.Shapes.{well}
-use Rattle.records.proofs.Finds.{constant_first, under_code, low_small, low_leads, high_small, high_leads}
+use Rattle.records.proofs.Finds.{constant_first, low_small, low_leads, high_small, high_leads}
 use Rattle.diagram.proofs.table.Table.+first_in_use.Goals as goal
 
-pub returns-then-is_constant : goal.returns-then-is_constant
-returns-then-is_constant g t c =
-    record {
-      small = pow_pos _;
-      first = λ sound lawful occurs. constant_first g.G.Algebra.ops (view c.args.self.now) c.args.h c.args.wanted (ltb-true c.args.h 16 (sym c.is_constant.ensures ∙ c.if-is_constant.true)) occurs;
-    }
-
-pub is_up-requires : goal.is_up-requires
-is_up-requires g t c =
-    let laws = g.G.Algebra.laws in
-    omega (arith, under_code laws c.args.h c.args.wanted c.under_mark-below.result c.under_mark-below.ensures c.requires.code, laws.sixteen_at_most)
-
-pub first_in_use-requires : goal.first_in_use-requires
-first_in_use-requires g t c κs within =
-    let h = c.args.h in
-    let large = ltb-false h 16 (sym c.is_constant.ensures ∙ c.if-is_constant.false) in
-    let u = c.requires.within in
-    let before = c.record_of-record.ensures.placed.low_before in
-    let less : c.record_of-record.result.low < h = omega arith in
-    let code = under_code g.G.Algebra.laws h c.args.wanted c.under_mark-below.result c.under_mark-below.ensures c.requires.code in
-    (search rules, (within, (omega arith, code)))
+pub returns-then-is_constant-clause-first : goal.returns-then-is_constant-clause-first
+returns-then-is_constant-clause-first g t c =
+    λ sound lawful occurs. constant_first g.G.Algebra.ops (view c.args.self.now) c.args.h c.args.wanted (ltb-true c.args.h 16 (sym c.is_constant.ensures ∙ c.if-is_constant.true)) occurs
 
 pub returns-then-is_up : goal.returns-then-is_up
 returns-then-is_up g t c =
@@ -46,16 +27,6 @@ returns-then-is_up g t c =
       small = low_small laws w h v u m r large c.requires.within read c.under_mark-below.ensures c.reach_of.ensures x c.record_of-record.ensures.placed small;
       first = low_leads laws w h v u m r large c.requires.within read c.under_mark-below.ensures c.reach_of.ensures x (sym c.is_up.ensures ∙ c.if-is_up.true) small c.first_in_use.ensures.first;
     }
-
-pub first_in_use-rest-requires : goal.first_in_use-rest-requires
-first_in_use-rest-requires g t c κs within =
-    let h = c.args.h in
-    let large = ltb-false h 16 (sym c.is_constant.ensures ∙ c.if-is_constant.false) in
-    let u = c.requires.within in
-    let before = c.record_of-record.ensures.placed.high_before in
-    let less : c.record_of-record.result.high < h = omega arith in
-    let code = under_code g.G.Algebra.laws h c.args.wanted c.under_mark-below.result c.under_mark-below.ensures c.requires.code in
-    (search rules, (within, (omega arith, code)))
 
 pub overflow_add-result : goal.overflow_add-result
 overflow_add-result g t c =

@@ -1,13 +1,10 @@
-use Rattle.std.proofs.Common.{Ok, Err, ◌∙◌, subst, arith}
+use Rattle.std.proofs.Common.{◌∙◌, subst}
 use Rattle.diagram.specs.Tasks.{number_of}
 use Rattle.diagram.specs.Views.{view, room}
 use Rattle.records.specs.Walks.{combined, WalkShape, WalkMeans}
 use Rattle.records.proofs.Shapes.{well}
 use Rattle.diagram.proofs.Fulls.{settled_shape, settled_means}
 use Rattle.diagram.proofs.table.Table.apply.Goals as goal
-
-pub settle-requires : goal.settle-requires
-settle-requires g c = omega (arith, c.used-used.ensures, c.walk-made.ensures.grows.more)
 
 pub returns : goal.returns
 returns g c =

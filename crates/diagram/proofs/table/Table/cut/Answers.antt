@@ -3,17 +3,11 @@ use Rattle.records.proofs.Shapes.{well}
 use Rattle.records.proofs.Halves.{cut_inside}
 use Rattle.diagram.proofs.table.Table.cut.Goals as goal
 
-pub cofactors-first-requires : goal.cofactors-first-requires
-cofactors-first-requires g c =
+pub cofactors-second-requires-clause-inside : goal.cofactors-second-requires-clause-inside
+cofactors-second-requires-clause-inside g c =
     let m = c.min-input.ensures in
     let inside = cut_inside (well c.args.self.now.well) c.args.x c.args.y c.requires.x c.requires.y c.requires.places in
-    record { within = c.requires.x; above = omega arith; inside = omega arith }
-
-pub cofactors-second-requires : goal.cofactors-second-requires
-cofactors-second-requires g c =
-    let m = c.min-input.ensures in
-    let inside = cut_inside (well c.args.self.now.well) c.args.x c.args.y c.requires.x c.requires.y c.requires.places in
-    record { within = c.requires.y; above = omega arith; inside = omega arith }
+    omega arith
 
 pub returns : goal.returns
 returns g c =

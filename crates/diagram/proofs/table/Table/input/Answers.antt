@@ -1,4 +1,4 @@
-use Rattle.std.proofs.Common.{◌≡◌, ◌<◌, ◌≤◌, Some, Ok, Err, sym, refl, ◌∙◌, subst, arith}
+use Rattle.std.proofs.Common.{◌≡◌, ◌<◌, ◌≤◌, Some, Err, sym, refl, ◌∙◌, subst, arith}
 use Rattle.std.proofs.lemmas.Bool.{lt-ltb, le-ltb}
 use Rattle.netlist.specs.Signals.{input}
 use Rattle.records.specs.declared.fault.TableFault.TheVariants.{NoSuchInput}
@@ -19,9 +19,6 @@ returns-then-input-inputs-clause-kept g c run =
     let P = g.M.Memo.recalls c.args.memo.now in
     let why : input_refusal s c.args.input ≡ Some NoSuchInput = fails _ _ _ (le-ltb c.args.input s.inputs (omega (arith, c.inputs.ensures))) in
     kept_input g.G.Algebra.laws w w (table_fits c.args.self.now) P P run _ (Err NoSuchInput) (stopped s P _ NoSuchInput _ refl why) c.args.input (λ _ _. tt)
-
-pub settle-requires : goal.settle-requires
-settle-requires g c = omega (arith, c.used-used.ensures, c.make-made.ensures.grows.more)
 
 pub returns : goal.returns
 returns g c =

@@ -1,8 +1,7 @@
-use Rattle.std.proofs.Common.{◌≡◌, ◌≤◌, length, Some, None, Ok, Err, Result, sym, refl, ap, ◌∙◌, subst, rules}
+use Rattle.std.proofs.Common.{◌≡◌, ◌≤◌, length, Some, Err, sym, refl, ap, ◌∙◌, subst, rules}
 use Rattle.std.specs.Result.{result_ok}
 use Rattle.std.proofs.lemmas.Bool.{lt-ltb, le-ltb}
 use Rattle.netlist.specs.Signals.{joined}
-use Rattle.records.specs.declared.fault.TableFault.{TableFault}
 use Rattle.records.specs.declared.fault.TableFault.TheVariants.{FewRows, NoSuchHandle, NoSuchOperator}
 use Rattle.records.specs.Faults.{join_refusal}
 use Rattle.records.specs.Outcomes.{Shape, Means, Meaning}
@@ -45,6 +44,18 @@ returns-in_err-operator g c =
       kept = λ run. kept_join g.G.Algebra.laws w w (table_fits c.args.self.now) P P run _ _ shape c.args.op c.args.x c.args.y meaning;
     }
 
+pub returns-in_err-check_lawful-clause-shape : goal.returns-in_err-check_lawful-clause-shape
+returns-in_err-check_lawful-clause-shape g c =
+    let o = g.G.Algebra.ops in
+    let s = view c.args.self.now in
+    let n = length c.args.rows.now in
+    let P = g.M.Memo.recalls c.args.memo.now in
+    let own = own_operator o c.args.op c.in_ok-operator.operator (sym c.operator.ensures ∙ c.ok_or.ensures.ok_part ∙ ap result_ok c.in_ok-operator.was) in
+    let is : c.from_residual-in_err-check_lawful.result ≡ Err NoSuchHandle = search rules in
+    let why : join_refusal o s n c.args.op c.args.x c.args.y ≡ Some NoSuchHandle =
+    passes _ _ _ (lt-ltb s.inputs n c.in_ok-check_rows.ensures) ∙ passes _ _ _ own.0 ∙ fails _ _ _ c.in_err-check_lawful.ensures.1 in
+    stopped s P _ NoSuchHandle _ is why
+
 pub returns-in_err-check_lawful-clause-kept : goal.returns-in_err-check_lawful-clause-kept
 returns-in_err-check_lawful-clause-kept g c run =
     let o = g.G.Algebra.ops in
@@ -57,6 +68,18 @@ returns-in_err-check_lawful-clause-kept g c run =
     let why : join_refusal o s n c.args.op c.args.x c.args.y ≡ Some NoSuchHandle =
     passes _ _ _ (lt-ltb s.inputs n c.in_ok-check_rows.ensures) ∙ passes _ _ _ own.0 ∙ fails _ _ _ c.in_err-check_lawful.ensures.1 in
     kept_join g.G.Algebra.laws w w (table_fits c.args.self.now) P P run _ _ (stopped s P _ NoSuchHandle _ is why) c.args.op c.args.x c.args.y (stopped_means o _ s P _ NoSuchHandle _ is tt)
+
+pub returns-in_err-check_lawful-2-clause-shape : goal.returns-in_err-check_lawful-2-clause-shape
+returns-in_err-check_lawful-2-clause-shape g c =
+    let o = g.G.Algebra.ops in
+    let s = view c.args.self.now in
+    let n = length c.args.rows.now in
+    let P = g.M.Memo.recalls c.args.memo.now in
+    let own = own_operator o c.args.op c.in_ok-operator.operator (sym c.operator.ensures ∙ c.ok_or.ensures.ok_part ∙ ap result_ok c.in_ok-operator.was) in
+    let is : c.from_residual-in_err-check_lawful-2.result ≡ Err NoSuchHandle = search rules in
+    let why : join_refusal o s n c.args.op c.args.x c.args.y ≡ Some NoSuchHandle =
+    passes _ _ _ (lt-ltb s.inputs n c.in_ok-check_rows.ensures) ∙ passes _ _ _ own.0 ∙ passes _ _ _ c.in_ok-check_lawful.ensures ∙ fails _ _ _ c.in_err-check_lawful-2.ensures.1 in
+    stopped s P _ NoSuchHandle _ is why
 
 pub returns-in_err-check_lawful-2-clause-kept : goal.returns-in_err-check_lawful-2-clause-kept
 returns-in_err-check_lawful-2-clause-kept g c run =

@@ -1,25 +1,14 @@
-use Rattle.std.proofs.Common.{◌+◌, cond, Some, None, sym, refl, ap, ◌∙◌, subst}
+use Rattle.std.proofs.Common.{◌+◌, cond, Some, None, sym, ap, ◌∙◌, subst}
 use Rattle.std.specs.Result.{result_ok}
 use Rattle.records.specs.Stores.{handle}
 use Rattle.diagram.specs.Views.{view, room}
 use Rattle.records.specs.Steps.{Fits, Adds}
-use Rattle.records.specs.Makings.{From, Chosen, MakeShape, Making}
-use Rattle.records.proofs.Adds.{grows_refl}
+use Rattle.records.specs.Makings.{From, Chosen, Making}
 use Rattle.records.proofs.Shapes.{well}
 use Rattle.records.proofs.Makes.{kept_sides}
-use Rattle.records.proofs.Chooses.{beside, from_same, from_found, chosen_same, chosen, crowded}
+use Rattle.records.proofs.Chooses.{beside, from_found, chosen, crowded}
 use Rattle.diagram.proofs.Fulls.{refused}
 use Rattle.diagram.proofs.table.Table.make.Goals as goal
-
-pub returns-then-low-high : goal.returns-then-low-high
-returns-then-low-high g c =
-    let s = view c.args.self.now in
-    record {
-      grows = grows_refl s;
-      room = refl;
-      shape = from_same c.args.input c.args.low c.requires.low;
-      meaning = λ sound l m. chosen_same g.G.Algebra.ops s c.args.input c.args.low c.args.high sound l c.if-low-high.true;
-    }
 
 pub add-requires : goal.add-requires
 add-requires g c =
@@ -27,8 +16,8 @@ add-requires g c =
     subst (λ r. Fits s r.input r.low r.high) (sym c.kept-kept.ensures.record)
     (kept_sides g.G.Algebra.laws (beside c.requires.inside c.requires.low c.requires.high c.if-low-high.false))
 
-pub returns-in_err-p : goal.returns-in_err-p
-returns-in_err-p g c =
+pub returns-in_err-p-clause-meaning : goal.returns-in_err-p-clause-meaning
+returns-in_err-p-clause-meaning g c =
     let o = g.G.Algebra.ops in
     let s = view c.args.self.now in
     let t = view c.add.new.self in
@@ -41,12 +30,7 @@ returns-in_err-p g c =
     let full : Adds s n r None t = subst (λ a. Adds s n r a t) none c.add.ensures.place in
     let fits = beside c.requires.inside c.requires.low c.requires.high c.if-low-high.false in
     let err = c.from_residual.ensures.0 in
-    record {
-      grows = c.add.ensures.grows;
-      room = c.add.ensures.room;
-      shape = refused (MakeShape s t i) _ err (λ _. full.same);
-      meaning = refused (Making o n s t i low high) _ err (λ _. crowded g.G.Algebra.laws (well c.args.self.now.well) fits n r c.kept-kept.ensures.record full.full full.lacked);
-    }
+    refused (Making o n s t i low high) _ err (λ _. crowded g.G.Algebra.laws (well c.args.self.now.well) fits n r c.kept-kept.ensures.record full.full full.lacked)
 
 pub returns : goal.returns
 returns g c =

@@ -5,12 +5,9 @@ use Rattle.diagram.specs.Views.{view}
 use Rattle.records.proofs.Shapes.{well, place_below}
 use Rattle.diagram.proofs.table.Table.record_of.Goals as goal
 
-pub returns : goal.returns
-returns c =
+pub returns-clause-placed : goal.returns-clause-placed
+returns-clause-placed c =
     let s = view c.args.self.now in
     let h = c.args.h in
     let read : c.record_at.result ≡ s.at (place h) = c.record_at.ensures ∙ ap s.at c.place_of.ensures in
-    record {
-      read = read;
-      placed = subst (Placed s (place h)) (sym read) ((well c.args.self.now.well).placed (place h) (place_below h s.used c.requires.large c.requires.within));
-    }
+    subst (Placed s (place h)) (sym read) ((well c.args.self.now.well).placed (place h) (place_below h s.used c.requires.large c.requires.within))

@@ -1,7 +1,6 @@
-use Rattle.std.proofs.Common.{◌≡◌, ◌≤◌, length, Some, Ok, Err, Result, sym, ◌∙◌, subst, rules}
+use Rattle.std.proofs.Common.{◌≡◌, ◌≤◌, length, Some, Err, sym, ◌∙◌, subst, rules}
 use Rattle.std.proofs.lemmas.Bool.{lt-ltb, le-ltb}
 use Rattle.netlist.specs.Signals.{turned}
-use Rattle.records.specs.declared.fault.TableFault.{TableFault}
 use Rattle.records.specs.declared.fault.TableFault.TheVariants.{FewRows, NoSuchHandle}
 use Rattle.records.specs.Faults.{turn_refusal}
 use Rattle.records.specs.Outcomes.{Shape, Meaning}
