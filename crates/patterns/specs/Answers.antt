@@ -2,11 +2,10 @@
 use Rattle.std.specs.Prelude.{ℕ, ◌^◌, ◌<◌, cond, List, ◌++◌, Some, None, codes, Option, ◌==◌, nat_lt}
 use Rattle.algebra.specs.Ops.{Ops}
 use Rattle.netlist.specs.declared.line.Line.{Line}
-use Rattle.netlist.specs.declared.fault.NetlistFault.{NetlistFault}
 use Rattle.netlist.specs.declared.fault.ComparisonFault.{ComparisonFault}
 use Rattle.netlist.specs.declared.fault.ComparisonFault.TheVariants.{TooManyInputs, ShortList, FewFindings, OutCounts, First, Second}
 use Rattle.netlist.specs.Lines.{out_count}
-use Rattle.netlist.specs.Faults.{first_fault}
+use Rattle.netlist.specs.Faults.{NetlistFault, first_fault}
 use Rattle.netlist.specs.FaultNumbers.{line_fault_number}
 use Rattle.netlist.specs.Findings.{findings}
 use Rattle.text.specs.declared.writer.Summary.TheVariants.{Tried}

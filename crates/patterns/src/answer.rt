@@ -1,14 +1,13 @@
-ghost use Rattle.std.specs.Prelude.{◌≡◌, ℕ, ◌^◌, ◌≤◌, List, ◌++◌, length, take, IfOk};
+ghost use Rattle.std.specs.Prelude.{◌≡◌, ℕ, ◌≤◌, List, length, take, IfOk, vec_len};
 ghost use Rattle.netlist.specs.FaultNumbers.{comparison_fault_number, comparison_fault_netlist, comparison_fault_line};
-ghost use Rattle.text.specs.declared.writer.Summary.TheVariants.{Tried};
-ghost use Rattle.text.specs.Reports.{fault_row, summary_row, findings_text};
+ghost use Rattle.text.specs.Reports.{fault_row};
 ghost use Rattle.patterns.specs.Answers.{too_many_inputs, compared, Prints, SmallLine};
 
 use algebra::{Algebra, FiveValued, TwoValued};
 use evaluation::{check_comparison, compare_by_patterns};
 use netlist::{ComparisonFault, Finding, Line};
 use std::alloc::{AllocError, Global};
-use text::{PairFault, Summary, read_pair, write_fault, write_findings, write_summary};
+use text::{Pair, Summary, read_pair, write_fault, write_findings, write_summary};
 
 // How many lines a netlist may have, and how many bytes are enough for whatever is printed.
 const LINES: usize = 512;
@@ -18,140 +17,109 @@ const BYTES: usize = 40_000;
 // With more inputs there are too many patterns to try.
 const INPUTS: u8 = 16;
 
-const BLANK: Line = Line {
-    kind: 0,
-    first: 0,
-    second: 0,
-};
+const TOO_MANY_INPUTS: &[u8] = b"more than 16 inputs: too many patterns to try\n";
 
-const TOO_MANY_INPUTS: [u8; 46] = *b"more than 16 inputs: too many patterns to try\n";
-
-// Writes the row of a refusal.
-fn put_fault(out: &mut [u8], number: u8, netlist: u8, line: Option<u32>) -> usize
-    requires { length out.old ≡ 40000 }
-    ensures within { result ≤ 40000 }
-    ensures text { take result out.new ≡ fault_row number netlist line }
-{
-    match write_fault(out, 0, number, netlist, line) {
-        Some(end) => end,
-        None => unreachable(),
-    }
-}
-
-// Writes the row of the refusal of a comparison.
-fn put_comparison_fault(out: &mut [u8], fault: ComparisonFault) -> usize
-    requires room { length out.old ≡ 40000 }
-    requires line { SmallLine fault }
-    ensures within { result ≤ 40000 }
-    ensures text { take result out.new ≡ fault_row (comparison_fault_number fault) (comparison_fault_netlist fault) (comparison_fault_line fault) }
-{
-    let line = match fault.line() {
-        Some(line) => Some(line as u32),
-        None => None,
-    };
-    put_fault(out, fault.number(), fault.netlist(), line)
-}
-
-// Writes the report on two netlists whose findings are known.
-fn put_report<G: Algebra>(
-    algebra: &G,
-    inputs: u8,
-    pairs: u32,
-    findings: &[Finding],
-    out: &mut [u8],
-) -> usize
-    requires room { length out.old ≡ 40000 }
-    requires inputs { inputs ≤ 16 }
-    requires pairs { length findings.now ≤ 512 }
-    ensures within { result ≤ 40000 }
-    ensures text { take result out.new ≡ summary_row pairs Tried (2 ^ inputs) ++ findings_text G.ops.letter inputs 0 findings.now }
-{
-    let Some(at) = write_summary(out, 0, pairs, Summary::Tried, 1 << inputs) else {
-        unreachable()
-    };
-    match write_findings(algebra, out, at, inputs, findings) {
-        Some(end) => end,
-        None => unreachable(),
-    }
+// What an answer fills: the lines of two netlists, the values of them all, the findings, and the bytes that are printed.
+#[derive(Drop)]
+struct Lists {
+    first: Vec<Line>,
+    second: Vec<Line>,
+    values: Vec<u8>,
+    findings: Vec<Finding>,
+    out: Vec<u8>,
+    ghost few: { vec_len first ≡ 512 },
+    ghost even: { vec_len second ≡ 512 },
+    ghost valued: { vec_len values ≡ 1024 },
+    ghost paired: { vec_len findings ≡ 512 },
+    ghost wide: { vec_len out ≡ 40000 },
 }
 
 // Writes that there are too many patterns to try.
 fn put_too_many(out: &mut [u8]) -> usize
-    requires { length out.old ≡ 40000 }
-    ensures within { result ≤ 40000 }
-    ensures text { take result out.new ≡ too_many_inputs }
+    requires { 46 ≤ length out.old }
+    ensures { take result out.new ≡ too_many_inputs }
 {
-    out[0..46].copy_from_slice(&TOO_MANY_INPUTS);
-    46
+    let end = TOO_MANY_INPUTS.len();
+    out[..end].copy_from_slice(TOO_MANY_INPUTS);
+    end
 }
 
-// Compares two netlists that were read, and writes what that comes to.
-fn put_comparison<G: Algebra>(
-    algebra: &G,
-    inputs: u8,
-    first: &[Line],
-    second: &[Line],
-    values: &mut [u8],
-    findings: &mut [Finding],
-    out: &mut [u8],
-) -> usize
-    requires inputs { inputs ≤ 60 }
-    requires first { length first.now ≤ 512 }
-    requires second { length second.now ≤ 512 }
-    requires values { length values.old ≡ 1024 }
-    requires findings { length findings.old ≡ 512 }
-    requires out { length out.old ≡ 40000 }
-    ensures within { result ≤ 40000 }
-    ensures text { take result out.new ≡ compared G.ops inputs first.now second.now }
-{
-    if inputs > INPUTS {
-        return match check_comparison(
+impl Lists {
+    fn new(heap: Global) -> Result<Lists, AllocError> {
+        Ok(Lists {
+            first: vec![in heap; Line::default(); LINES]?,
+            second: vec![in heap; Line::default(); LINES]?,
+            values: vec![in heap; 0u8; 2 * LINES]?,
+            findings: vec![in heap; Finding::Clean; LINES]?,
+            out: vec![in heap; 0u8; BYTES]?,
+        })
+    }
+
+    // Writes the row of the refusal of a comparison.
+    fn put_fault(&mut self, fault: ComparisonFault) -> usize
+        requires { SmallLine fault }
+        ensures { take result self.new.out.items ≡ fault_row (comparison_fault_number fault) (comparison_fault_netlist fault) (comparison_fault_line fault) }
+    {
+        let line = fault.line().map(|line| line as u32);
+        write_fault(&mut self.out, 0, fault.number(), fault.netlist(), line).unwrap()
+    }
+
+    // Compares the two netlists that were read, and writes what that comes to.
+    fn put_comparison<G: Algebra>(&mut self, algebra: &G, pair: Pair) -> usize
+        requires inputs { pair.first.inputs ≤ 60 }
+        requires first { pair.first.lines ≤ 512 }
+        requires second { pair.second.lines ≤ 512 }
+        ensures { take result self.new.out.items ≡ compared G.ops pair.first.inputs (take pair.first.lines self.old.first.items) (take pair.second.lines self.old.second.items) }
+    {
+        let inputs = pair.first.inputs;
+        let first = &self.first[..pair.first.lines as usize];
+        let second = &self.second[..pair.second.lines as usize];
+        if inputs > INPUTS {
+            return match check_comparison(
+                algebra,
+                inputs,
+                first,
+                second,
+                self.values.len(),
+                self.findings.len(),
+            ) {
+                Ok(_) => put_too_many(&mut self.out),
+                Err(fault) => self.put_fault(fault),
+            };
+        }
+        match compare_by_patterns(
             algebra,
             inputs,
             first,
             second,
-            values.len(),
-            findings.len(),
+            &mut self.values,
+            &mut self.findings,
         ) {
-            Ok(_) => put_too_many(out),
-            Err(fault) => put_comparison_fault(out, fault),
-        };
-    }
-    match compare_by_patterns(algebra, inputs, first, second, values, findings) {
-        Ok(pairs) => put_report(algebra, inputs, pairs as u32, &findings[0..pairs], out),
-        Err(fault) => put_comparison_fault(out, fault),
-    }
-}
-
-// Reads two netlists, compares them, and writes what that comes to.
-fn put_answer(
-    input: &[u8],
-    first: &mut [Line],
-    second: &mut [Line],
-    values: &mut [u8],
-    findings: &mut [Finding],
-    out: &mut [u8],
-) -> usize
-    requires first { length first.old ≡ 512 }
-    requires second { length second.old ≡ 512 }
-    requires values { length values.old ≡ 1024 }
-    requires findings { length findings.old ≡ 512 }
-    requires out { length out.old ≡ 40000 }
-    ensures within { result ≤ 40000 }
-    ensures text { Prints input.now (take result out.new) }
-    ensures only { (t : List ℕ) → Prints input.now t → t ≡ take result out.new }
-{
-    match read_pair(input, first, second) {
-        Err(fault) => put_fault(out, fault.number(), fault.netlist(), fault.line()),
-        Ok(pair) => {
-            let one = &first[0..pair.first.lines as usize];
-            let two = &second[0..pair.second.lines as usize];
-            let inputs = pair.first.inputs;
-            if pair.first.values == 2 {
-                put_comparison(&TwoValued, inputs, one, two, values, findings, out)
-            } else {
-                put_comparison(&FiveValued, inputs, one, two, values, findings, out)
+            Ok(pairs) => {
+                let out = self.out.as_mut_slice();
+                let at = write_summary(out, 0, pairs as u32, Summary::Tried, 1 << inputs).unwrap();
+                write_findings(algebra, out, at, inputs, &self.findings[..pairs]).unwrap()
             }
+            Err(fault) => self.put_fault(fault),
+        }
+    }
+
+    // Reads two netlists, compares them, and writes what that comes to. `report` has the same match: shared, it would be a
+    // public function with conditions on what is lent, and public functions have none.
+    fn put_answer(&mut self, input: &[u8]) -> usize
+        ensures { Prints input.now (take result self.new.out.items) × ((t : List ℕ) → Prints input.now t → t ≡ take result self.new.out.items) }
+    {
+        match read_pair(input, &mut self.first, &mut self.second) {
+            Err(fault) => write_fault(
+                &mut self.out,
+                0,
+                fault.number(),
+                fault.netlist(),
+                fault.line(),
+            )
+            .unwrap(),
+            Ok(pair) if pair.first.values == 2 => self.put_comparison(&TwoValued, pair),
+            Ok(pair) => self.put_comparison(&FiveValued, pair),
         }
     }
 }
@@ -160,19 +128,9 @@ fn put_answer(
 pub fn answer(heap: Global, input: &[u8]) -> Result<Vec<u8>, AllocError>
     ensures { IfOk result (λ v. Prints input.now v.items × ((t : List ℕ) → Prints input.now t → t ≡ v.items)) }
 {
-    let mut first = vec![in heap; BLANK; LINES]?;
-    let mut second = vec![in heap; BLANK; LINES]?;
-    let mut values = vec![in heap; 0u8; 1024]?;
-    let mut findings = vec![in heap; Finding::Clean; LINES]?;
-    let mut out = vec![in heap; 0u8; BYTES]?;
-    let end = put_answer(
-        input,
-        &mut first,
-        &mut second,
-        &mut values,
-        &mut findings,
-        &mut out,
-    );
+    let mut lists = Lists::new(heap)?;
+    let end = lists.put_answer(input);
+    let mut out = lists.out;
     out.truncate(end);
     Ok(out)
 }

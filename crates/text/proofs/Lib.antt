@@ -10,3 +10,5 @@ pub mod Writing
 pub mod Found
 pub mod Answering
 pub mod Fits
+pub mod Sure
+pub mod Only
