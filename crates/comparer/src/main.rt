@@ -1,7 +1,6 @@
 // Compares two netlists, which stand one after the other on standard input, on a table of shared diagrams.
 #![tactic(auto)]
 
-use anyhow::anyhow;
 use report::Workspace;
 use std::io::{Read, Write};
 
@@ -9,12 +8,8 @@ fn main(rt: HostRuntime) -> anyhow::Result<()> {
     let mut input = Vec::new(rt.alloc());
     rt.stdin().read_to_end(&mut input)?;
     let mut workspace = Workspace::standard(rt.alloc())?;
-    let mut out = vec![in rt.alloc(); 0u8; workspace.bytes_needed()]?;
-    let Ok(end) = workspace.report(&input, &mut out) else {
-        return Err(anyhow!("the report does not fit"));
-    };
-    out.truncate(end);
-    rt.stdout().write_all(&out)?;
+    let printed = workspace.answer(rt.alloc(), &input)?;
+    rt.stdout().write_all(&printed)?;
     Ok(())
 }
 
@@ -98,6 +93,16 @@ mod tests {
             return Err(Fail::new("not refused"));
         };
         assert_eq!(rt; fault.number(), 44);
+        Ok(())
+    }
+
+    #[test]
+    fn answers(rt: HostRuntime) -> Result<(), Fail> {
+        let mut workspace = Workspace::standard(rt.alloc())?;
+        for case in CASES.iter() {
+            let printed = workspace.answer(rt.alloc(), case.input)?;
+            assert!(rt; printed.as_slice() == case.printed);
+        }
         Ok(())
     }
 }

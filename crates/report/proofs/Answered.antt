@@ -23,10 +23,9 @@ use Rattle.memo.specs.Memos.{Pairs}
 use Rattle.records.specs.Runs.{Answer, told, Run, compare, answer_of, Book, book_signals, Step, step, all_booked, kept_pairs, steps, book, Provided, AllTrue, Facts, Kept}
 use Rattle.records.proofs.Books.{booked_append}
 use Rattle.checking.specs.declared.checking.Checked.{Checked}
-use Rattle.faults.specs.declared.fault.LineRefusal.{LineRefusal}
 use Rattle.faults.specs.declared.fault.PairRefusal.{PairRefusal}
 use Rattle.faults.specs.declared.fault.LayFault.TheVariants as lays
-use Rattle.faults.specs.Faults.{line_reason_number}
+use Rattle.faults.specs.Faults.{LineRefusal, line_reason_number}
 use Rattle.laying.specs.Lays.{TableRefuses, RefusedLine, lay_answers}
 use Rattle.comparison.specs.Compares.{row_handles, row_findings, pairs_event}
 use Rattle.report.specs.Refusals.{grade_signals, all_signals, refused_line}

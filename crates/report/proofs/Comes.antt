@@ -1,6 +1,6 @@
 -- What compare answered is what is reported. Assumes nothing.
 use Rattle.std.proofs.Common.{◌≡◌, ℕ, ◌+◌, ◌<◌, ◌≤◌, List, [], ◌∷◌, ◌++◌, length, take, drop, None, Ok, Err, Result, sym, refl, ap, ◌∙◌, subst, arith, length-drop}
-use Rattle.std.proofs.lemmas.List.{length-take-le}
+use Rattle.std.proofs.lemmas.List.{length-take, length-take-le}
 use Rattle.algebra.specs.Ops.{Ops}
 use Rattle.netlist.specs.declared.line.Line.{Line}
 use Rattle.netlist.specs.Lines.{out_count}
@@ -41,7 +41,7 @@ module _ (o : Ops) (room rows n : ℕ) (ls ms : List Line) (s t : Store) (P Q : 
       let parts = x.1.parts in (
         x.0,
         subst (λ z. compared room o n ls ms ≡ summary_row z Report t.used ++ findings_text o.letter n 0 (row_findings (take z cs'))) (sym x.0)
-            (all_come o n room ls ms t Q (parts.2.inputs ∙ inputs) x.1.counted.even (take (length ls) hs') first_long (at_n ls parts.0) (second_part ls ms hs') second_long (at_n ms parts.1) (take (out_count ls) cs') (rows_long cs' same') kept),
+            (all_come o n room ls ms t Q (parts.2.inputs ∙ inputs) x.1.counted.pairs (take (length ls) hs') first_long (at_n ls parts.0) (second_part ls ms hs') second_long (at_n ms parts.1) (take (out_count ls) cs') (rows_long cs' same') kept),
       )
   comes_to (Err ShortList) x kept = absurd (let h = x.0 in omega arith)
   comes_to (Err FewFindings) x kept = absurd (let h = x.0.1 in omega arith)
@@ -51,32 +51,30 @@ module _ (o : Ops) (room rows n : ℕ) (ls ms : List Line) (s t : Store) (P Q : 
   comes_to (Err (First (lays.Table f))) x kept = absurd x.parts.0
   comes_to (Err (First (lays.Line e))) x kept =
       let line = x.parts.0 in
-      first_comes o n room ls ms t Q (line.2.grows.inputs ∙ inputs) x.counted.even (take (length ls) hs') e first_long line.0
+      first_comes o n room ls ms t Q (line.2.grows.inputs ∙ inputs) x.counted.pairs (take (length ls) hs') e first_long line.0
       (subst (λ m. RefusedLine o m ls t (take e.line (take (length ls) hs')) e.line e.fault) inputs line.1) kept
   comes_to (Err (Second lays.ShortList)) x kept = absurd x.parts.1
   comes_to (Err (Second (lays.Table f))) x kept = absurd x.parts.1
   comes_to (Err (Second (lays.Line e))) x kept =
       let line = x.parts.1 in
-      second_comes o n room ls ms t Q (line.2.grows.inputs ∙ inputs) x.counted.even (take (length ls) hs') first_long (at_n ls x.parts.0) (second_part ls ms hs') e second_long line.0
+      second_comes o n room ls ms t Q (line.2.grows.inputs ∙ inputs) x.counted.pairs (take (length ls) hs') first_long (at_n ls x.parts.0) (second_part ls ms hs') e second_long line.0
       (subst (λ m. RefusedLine o m ms t (take e.line (second_part ls ms hs')) e.line e.fault) inputs line.1) kept
   comes_to (Err (Pair e)) x kept =
       let parts = x.parts in
-      pair_comes o n room ls ms t Q (parts.2.0.inputs ∙ inputs) x.counted.even (take (length ls) hs') first_long (at_n ls parts.0) (second_part ls ms hs') second_long (at_n ms parts.1) (take (out_count ls) cs') e (rows_long cs' same')
+      pair_comes o n room ls ms t Q (parts.2.0.inputs ∙ inputs) x.counted.pairs (take (length ls) hs') first_long (at_n ls parts.0) (second_part ls ms hs') second_long (at_n ms parts.1) (take (out_count ls) cs') e (rows_long cs' same')
       (let h = parts.2.1 in omega (arith, rows_long cs refl)) parts.2.2 kept
 
--- .. where compare is the first call on a table that was started
-pub started_comes : (o : Ops) (room room' rows n : ℕ) (ls ms : List Line) (s t : Store) (P Q : Pairs) (hs hs' : List ℕ) (cs cs' : List Checked)
-    → s.inputs ≡ n → length ls + length ms ≤ length hs → length ls ≤ length cs → n < rows → length hs' ≡ length hs → length cs' ≡ length cs
-    → room' ≡ room → Kept o room [] s P → (r : Result ℕ CompareFault) → Compared o s t P Q rows ls ms hs hs' cs cs' r
-    → ((run : Run) → Kept o room' run s P → Kept o room' (compare_event ls ms hs' cs' r ∷ run) t Q) → ComesTo o n room ls ms t.used cs' r
-started_comes o room room' rows n ls ms s t P Q hs hs' cs cs' inputs long few enough same same' e begun r compared kept =
-    comes_to o room rows n ls ms s t P Q hs hs' cs cs' inputs long (let h = few_outs ls in omega arith) enough same same' r compared
-    (subst (λ m. Kept o m (compare_event ls ms hs' cs' r ∷ []) t Q) e (kept [] (subst (λ m. Kept o m [] s P) (sym e) begun)))
-
--- the first rows, as they are cut off
-pub rows_cut : (letter : ℕ → ℕ) (n pairs used k used' : ℕ) (cs : List Checked) → k ≡ pairs → used' ≡ used → pairs ≤ length cs
-    → summary_row (length (take k cs)) Report used' ++ findings_text letter n 0 (row_findings (take k cs)) ≡ summary_row pairs Report used ++ findings_text letter n 0 (row_findings (take pairs cs))
-rows_cut letter n pairs used k used' cs ek eu h =
-    ap (λ z. summary_row (length (take z cs)) Report used' ++ findings_text letter n 0 (row_findings (take z cs))) ek
-    ∙ ap (λ z. summary_row z Report used' ++ findings_text letter n 0 (row_findings (take pairs cs))) (length-take-le pairs cs h)
-    ∙ ap (λ z. summary_row pairs Report z ++ findings_text letter n 0 (row_findings (take pairs cs))) eu
+-- .. where compare is the first call on a table that was started, and a workspace lends the first lines of its lists x and y
+pub started_comes : (o : Ops) (room room' rows n k l lines : ℕ) (x x' y y' : List Line) (s t : Store) (P Q : Pairs) (hs hs' : List ℕ) (cs cs' : List Checked)
+    → x ≡ x' → y ≡ y' → s.inputs ≡ n → n ≤ 60 → rows ≡ 61 → k ≤ lines → l ≤ lines → length hs ≡ lines + lines → length cs ≡ lines
+    → length hs' ≡ length hs → length cs' ≡ length cs → room' ≡ room → Kept o room [] s P → (r : Result ℕ CompareFault) → Compared o s t P Q rows (take k x) (take l y) hs hs' cs cs' r
+    → ((run : Run) → Kept o room' run s P → Kept o room' (compare_event (take k x) (take l y) hs' cs' r ∷ run) t Q) → ComesTo o n room (take k x') (take l y') t.used cs' r
+started_comes o room room' rows n k l lines x x' y y' s t P Q hs hs' cs cs' ex ey inputs narrow deep hk hl long paired same same' e begun r compared kept =
+    let ls = take k x in
+    let ms = take l y in
+    let few : length ls ≤ lines = omega (arith, length-take k x) in
+    let few' : length ms ≤ lines = omega (arith, length-take l y) in
+    let comes : ComesTo o n room ls ms t.used cs' r =
+    comes_to o room rows n ls ms s t P Q hs hs' cs cs' inputs (omega arith) (let h = few_outs ls in omega arith) (omega arith) same same' r compared
+    (subst (λ m. Kept o m (compare_event ls ms hs' cs' r ∷ []) t Q) e (kept [] (subst (λ m. Kept o m [] s P) (sym e) begun))) in
+    subst (λ z. ComesTo o n room (take k x') (take l z) t.used cs' r) ey (subst (λ z. ComesTo o n room (take k z) ms t.used cs' r) ex comes)

@@ -5,8 +5,7 @@ use Rattle.algebra.specs.Ops.{Ops}
 use Rattle.netlist.specs.declared.line.Line.{Line}
 use Rattle.netlist.specs.Lines.{line_signals, out_count}
 use Rattle.text.specs.Reports.{fault_row}
-use Rattle.faults.specs.declared.fault.LineRefusal.{LineRefusal}
-use Rattle.faults.specs.Faults.{line_reason_number}
+use Rattle.faults.specs.Faults.{LineRefusal, line_reason_number}
 use Rattle.report.specs.Refusals.{refused_line, refused_pair}
 use Rattle.report.specs.Reports.{unless_line, unless_pair, findings_report, compared}
 

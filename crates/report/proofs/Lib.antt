@@ -1,4 +1,3 @@
-pub mod Copies
 pub mod Overs
 pub mod Judgings
 pub mod Stops

@@ -4,10 +4,9 @@ use Rattle.std.proofs.lemmas.Bool.{both_ways, cases_lt, lt-ltb, le-ltb, cond-tru
 use Rattle.algebra.specs.Ops.{Ops}
 use Rattle.netlist.specs.declared.line.Line.{Line}
 use Rattle.netlist.specs.declared.fault.LineFault.{LineFault}
-use Rattle.netlist.specs.declared.fault.NetlistFault.{NetlistFault}
 use Rattle.netlist.specs.Signals.{Signal}
 use Rattle.netlist.specs.Parts.{part_count}
-use Rattle.netlist.specs.Faults.{line_fault, first_fault, at_line}
+use Rattle.netlist.specs.Faults.{NetlistFault, line_fault, first_fault, at_line}
 use Rattle.netlist.specs.Findings.{first_from}
 use Rattle.netlist.proofs.Searches.{first_found, first_least, first_none}
 use Rattle.report.specs.Refusals.{first_over, by_itself, for_room, earlier}

@@ -1,5 +1,5 @@
 -- What an answer of compare is to print. Only the contracts of inner functions cite this. Assumes nothing.
-use Rattle.std.specs.Prelude.{◌≡◌, ℕ, ◌<◌, List, ◌++◌, take, Some, None, Ok, Err, Option, Result}
+use Rattle.std.specs.Prelude.{◌≡◌, ℕ, List, ◌++◌, take, Some, None, Ok, Err, Option, Result}
 use Rattle.algebra.specs.Ops.{Ops}
 use Rattle.netlist.specs.declared.line.Line.{Line}
 use Rattle.netlist.specs.Lines.{out_count}
@@ -26,8 +26,3 @@ fault_place (Pair e) = Some e.pair
 abbrev pub ComesTo : Ops → ℕ → ℕ → List Line → List Line → ℕ → List Checked → Result ℕ CompareFault → Type 0
 ComesTo o n room ls ms used cs (Ok pairs) = (pairs ≡ out_count ls) × (compared room o n ls ms ≡ summary_row pairs Report used ++ findings_text o.letter n 0 (row_findings (take pairs cs)))
 ComesTo o n room ls ms used cs (Err f) = compared room o n ls ms ≡ fault_row (compare_fault_number f) (compare_fault_netlist f) (fault_place f)
-
--- a number, if any, that a row can hold
-abbrev pub Small : Option ℕ → Type 0
-Small None = Unit {0}
-Small (Some k) = k < 100000

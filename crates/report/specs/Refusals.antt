@@ -3,15 +3,14 @@
 use Rattle.std.specs.Prelude.{ℕ, suc, cond, ltb, List, ◌++◌, length, take, Some, None, Option, nat_lt}
 use Rattle.algebra.specs.Ops.{Ops}
 use Rattle.netlist.specs.declared.line.Line.{Line}
-use Rattle.netlist.specs.declared.fault.NetlistFault.{NetlistFault}
 use Rattle.netlist.specs.Signals.{Signal, joined}
 use Rattle.netlist.specs.Parts.{part_count}
 use Rattle.netlist.specs.Lines.{line_signals, outs}
-use Rattle.netlist.specs.Faults.{first_fault}
+use Rattle.netlist.specs.Faults.{NetlistFault, first_fault}
 use Rattle.netlist.specs.Findings.{first_from, zipped}
 use Rattle.records.specs.declared.fault.TableFault.TheVariants.{Full}
 use Rattle.faults.specs.declared.fault.LineReason.TheVariants.{Line as OfLine, Table as OfTable}
-use Rattle.faults.specs.declared.fault.LineRefusal.{LineRefusal}
+use Rattle.faults.specs.Faults.{LineRefusal}
 
 -- GRADE of each pair of OUT lines
 abbrev pub grade_signals : Ops → ℕ → List Line → List Line → List Signal

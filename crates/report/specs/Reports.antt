@@ -13,8 +13,7 @@ use Rattle.text.specs.declared.writer.Summary.TheVariants.{Report}
 use Rattle.text.specs.Pairs.{PairAccepted}
 use Rattle.text.specs.Reports.{fault_row, summary_row, findings_text, Written}
 use Rattle.text.specs.Answers.{algebra_of, blank_lines, Prints}
-use Rattle.faults.specs.declared.fault.LineRefusal.{LineRefusal}
-use Rattle.faults.specs.Faults.{line_reason_number}
+use Rattle.faults.specs.Faults.{LineRefusal, line_reason_number}
 use Rattle.report.specs.declared.fault.ReportFault.{ReportFault}
 use Rattle.report.specs.declared.fault.ReportFault.TheVariants.{ShortReport}
 use Rattle.report.specs.Refusals.{all_signals, refused_line, refused_pair}
@@ -49,6 +48,10 @@ compared room o n ls ms =
 -- so many bytes are enough for every report on netlists of at most so many lines, and no fewer are taken
 abbrev pub bytes_needed : ℕ → ℕ
 bytes_needed lines = max 40000 (19 + 73 * lines)
+
+-- the text is the report on these bytes, and no other text would be
+abbrev pub IsReport : ℕ → ℕ → List ℕ → List ℕ → Type 0
+IsReport lines room bytes text = Prints lines (compared room) bytes text × ((t : List ℕ) → Prints lines (compared room) bytes t → t ≡ text)
 
 -- the report stands in front, no other text would be the report on these bytes, and the rest is as before
 pub record Printed (lines room : ℕ) (bytes before after : List ℕ) (end : ℕ) : Type 0 where

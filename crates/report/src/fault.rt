@@ -5,7 +5,7 @@ ghost use Rattle.report.specs.Reports.{report_fault_number};
 #[derive(Clone, Copy, PartialEq, Eq, Debug)]
 pub enum ReportFault {
     // too few bytes are lent for the report
-    ShortReport,
+    ShortReport = 44,
 }
 
 impl ReportFault {
@@ -13,8 +13,6 @@ impl ReportFault {
     pub fn number(self) -> u8
         ensures { result ≡ report_fault_number self }
     {
-        match self {
-            ReportFault::ShortReport => 44,
-        }
+        self as u8
     }
 }

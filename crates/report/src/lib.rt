@@ -1,9 +1,7 @@
 // The report on two netlists, from their text to the printed answer.
 #![tactic(auto)]
 
-mod comparing;
 mod fault;
-mod putting;
 mod workspace;
 
 pub use fault::ReportFault;

@@ -4,7 +4,7 @@ ghost use Rattle.report.specs.Limits.{lines_of, places_of, memo_rows_of};
 use super::{Limits, Workspace};
 use comparison::Checked;
 use diagram::{Row, RowMemo, Table};
-use netlist::{Finding, Line};
+use netlist::Line;
 use std::alloc::{AllocError, Global};
 
 // The most lines that a HEAD row can count.
@@ -12,25 +12,6 @@ const MOST_LINES: usize = 99_999;
 
 // One more than the most inputs of a table.
 const ROWS: usize = 61;
-
-const FRAME: Row = Row {
-    input: 0,
-    low: 0,
-    high: 0,
-    low_other: 0,
-    high_other: 0,
-};
-
-const BLANK: Line = Line {
-    kind: 0,
-    first: 0,
-    second: 0,
-};
-
-const UNCHECKED: Checked = Checked {
-    handle: 0,
-    finding: Finding::Clean,
-};
 
 impl Workspace {
     // A workspace of some limits. All its memory is asked for here.
@@ -40,12 +21,11 @@ impl Workspace {
         let lines = limits.lines.min(MOST_LINES);
         let table = Table::new(heap, limits.places)?;
         let memo = RowMemo::new(heap, limits.memo_bits)?;
-        let rows = vec![in heap; FRAME; ROWS]?;
-        let first = vec![in heap; BLANK; lines]?;
-        let second = vec![in heap; BLANK; lines]?;
+        let rows = vec![in heap; Row::default(); ROWS]?;
+        let first = vec![in heap; Line::default(); lines]?;
+        let second = vec![in heap; Line::default(); lines]?;
         let handles = vec![in heap; 0u32; lines + lines]?;
-        let found = vec![in heap; UNCHECKED; lines]?;
-        let findings = vec![in heap; Finding::Clean; lines]?;
+        let found = vec![in heap; Checked::default(); lines]?;
         Ok(Workspace {
             table,
             memo,
@@ -54,7 +34,6 @@ impl Workspace {
             second,
             handles,
             found,
-            findings,
         })
     }
 

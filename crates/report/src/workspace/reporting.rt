@@ -1,10 +1,10 @@
-ghost use Rattle.std.specs.Prelude.{◌≡◌, max};
+ghost use Rattle.std.specs.Prelude.{◌≡◌, max, IfOk};
 ghost use Rattle.report.specs.Limits.{lines_of, places_of};
-ghost use Rattle.report.specs.Reports.{bytes_needed, Answers, Tells};
+ghost use Rattle.report.specs.Reports.{bytes_needed, Answers, IsReport, Tells};
 
 use super::Workspace;
-use crate::comparing::put_answer;
 use crate::fault::ReportFault;
+use std::alloc::{AllocError, Global};
 
 // The fewest bytes that are taken for a report, whatever the limits are.
 const FEWEST_BYTES: usize = 40_000;
@@ -33,18 +33,19 @@ impl Workspace {
         if out.len() < self.bytes_needed() {
             return Err(ReportFault::ShortReport);
         }
-        let end = put_answer(
-            input,
-            &mut self.table,
-            &mut self.memo,
-            &mut self.rows,
-            &mut self.first,
-            &mut self.second,
-            &mut self.handles,
-            &mut self.found,
-            &mut self.findings,
-            out,
-        );
-        Ok(end)
+        Ok(self.put_answer(input, out))
+    }
+
+    // The report on two netlists, or the row of the first refusal, in bytes of its own.
+    pub fn answer(&mut self, heap: Global, input: &[u8]) -> Result<Vec<u8>, AllocError>
+        ensures answer { IfOk result (λ v. IsReport (lines_of self.old) (places_of self.old) input.now v.items) }
+        ensures tells { Tells (lines_of self.old) input.now }
+        ensures lines { lines_of self.new ≡ lines_of self.old }
+        ensures places { places_of self.new ≡ places_of self.old }
+    {
+        let mut out = vec![in heap; 0u8; self.bytes_needed()]?;
+        let end = self.put_answer(input, &mut out);
+        out.truncate(end);
+        Ok(out)
     }
 }
