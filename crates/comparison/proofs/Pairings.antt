@@ -1,12 +1,13 @@
 -- The pairs so far checked, and one pair on. Assumes nothing.
-use Rattle.std.proofs.Common.{◌≡◌, ℕ, ◌+◌, ◌<◌, ◌≤◌, List, [], ◌∷◌, ◌++◌, map, length, get_or, take, drop, set, IfOk, Ok, Err, Result, sym, refl, ap, ◌∙◌, subst, ⊎_elim, arith}
-use Rattle.std.proofs.lemmas.List.{length-take-le, length-map, length-drop, take_all, take_more_set, map_push, drop-set-lt, drop-drop, drop_more, length-append, get_or_append_left, get_or-append-add}
-use Rattle.std.proofs.lemmas.Bool.{cases_lt}
+use Rattle.std.proofs.Common.{◌≡◌, ℕ, suc, ◌+◌, ◌<◌, ◌≤◌, true, false, not, cond, List, [], ◌∷◌, ◌++◌, map, length, get_or, take, drop, set, IfOk, Ok, Err, Result, sym, refl, ap, ◌∙◌, subst, ⊎_elim, arith}
+use Rattle.std.proofs.lemmas.List.{length-take-le, length-map, length-drop, take_all, take_more_set, map_push, drop-set-lt, drop-drop, drop_more, get_or-drop, length-append, get_or_append_left, get_or-append-add}
+use Rattle.std.proofs.lemmas.Bool.{cases_lt, eqb-true}
+use Rattle.std.specs.List.{position_or_len}
 use Rattle.algebra.specs.Ops.{Ops}
 use Rattle.algebra.specs.Laws.{Laws}
 use Rattle.netlist.specs.declared.line.Line.{Line}
 use Rattle.netlist.specs.Signals.{joined}
-use Rattle.netlist.specs.Lines.{outs, out_count}
+use Rattle.netlist.specs.Lines.{is_out, outs, out_count}
 use Rattle.netlist.specs.Findings.{finding}
 use Rattle.netlist.proofs.OutLines.{outs_out, outs_all}
 use Rattle.netlist.proofs.OutValues.{outs_length}
@@ -27,6 +28,55 @@ use Rattle.comparison.specs.Compares.{row_handles, row_findings, no_pairs, pairs
 use Rattle.laying.proofs.Lines.{outcome, join_refuses}
 use Rattle.laying.proofs.Layings.{back_grows}
 
+-- ---- the lines before the first OUT line
+
+abbrev before : List Line → ℕ
+before ls = position_or_len is_out ls
+
+pub before_hit : (l : Line) (ls : List Line) → is_out l ≡ true → before (l ∷ ls) ≡ 0
+before_hit l ls e = ap (λ b. cond (not b) (1 + before ls) 0) e
+
+pub before_miss : (l : Line) (ls : List Line) → is_out l ≡ false → before (l ∷ ls) ≡ before ls + 1
+before_miss l ls e = let one : 1 + before ls ≡ before ls + 1 = omega arith in ap (λ b. cond (not b) (1 + before ls) 0) e ∙ one
+
+pub before_within : (ls : List Line) → before ls ≤ length ls
+before_within [] = omega arith
+before_within (l ∷ ls) =
+    let rest = before_within ls in
+    elim (is_out l) as (λ b. cond (not b) (1 + before ls) 0 ≤ suc (length ls)) [ true ↦ omega arith | false ↦ omega arith ]
+
+found_at : (ls : List Line) (d : Line) → before ls < length ls → is_out (get_or ls (before ls) d) ≡ true
+found_at [] d = λ h. absurd (omega arith)
+found_at (l ∷ ls) d =
+    (elim (is_out l) as (λ b. is_out l ≡ b → cond (not b) (1 + before ls) 0 < suc (length ls) → is_out (get_or (l ∷ ls) (cond (not b) (1 + before ls) 0) d) ≡ true) [
+      true ↦ λ e h. e
+      | false ↦ λ e h. let one : 1 + before ls ≡ suc (before ls) = omega arith in ap (λ n. is_out (get_or (l ∷ ls) n d)) one ∙ found_at ls d (omega arith)
+    ]) refl
+
+skips_at : (ls : List Line) (xs : List ℕ) → length xs ≡ length ls → outs ls xs ≡ outs (drop (before ls) ls) (drop (before ls) xs)
+unfolding outs
+skips_at [] xs e = refl
+skips_at (l ∷ ls) [] e = absurd (omega arith)
+skips_at (l ∷ ls) (x ∷ xs) e =
+    let rest = skips_at ls xs (omega arith) in
+    (elim (is_out l) as (λ b. is_out l ≡ b → cond b (x ∷ outs ls xs) (outs ls xs) ≡ outs (drop (cond (not b) (1 + before ls) 0) (l ∷ ls)) (drop (cond (not b) (1 + before ls) 0) (x ∷ xs))) [
+      true ↦ λ is. ap (λ b. cond b (x ∷ outs ls xs) (outs ls xs)) (sym is)
+      | false ↦ λ is. let one : suc (before ls) ≡ 1 + before ls = omega arith in rest ∙ ap (λ n. outs (drop n (l ∷ ls)) (drop n (x ∷ xs))) one
+    ]) refl
+
+module _ (ls : List Line) (i k : ℕ) (is : k ≡ before (drop i ls)) where
+  pub before_found : k < length (drop i ls) → is_out (get_or ls (i + k) blank_line) ≡ true
+  before_found h =
+      ap is_out (sym (get_or-drop i ls k blank_line)) ∙ ap (λ n. is_out (get_or (drop i ls) n blank_line)) is
+      ∙ found_at (drop i ls) blank_line (omega arith)
+
+  pub before_skips : (xs : List ℕ) → length xs ≡ length ls → outs (drop i ls) (drop i xs) ≡ outs (drop (i + k) ls) (drop (i + k) xs)
+  before_skips xs e =
+      skips_at (drop i ls) (drop i xs) (let a = length-drop i ls in let b = length-drop i xs in omega arith)
+      ∙ ap (λ n. outs (drop n (drop i ls)) (drop n (drop i xs))) (sym is)
+      ∙ ap (λ l. outs l (drop k (drop i xs))) (drop-drop k i ls)
+      ∙ ap (outs (drop (i + k) ls)) (drop-drop k i xs)
+
 -- ---- the OUT lines, one on
 
 module _ (ls : List Line) (hs : List ℕ) (long : length hs ≡ length ls) (k x : ℕ) (h : k < out_count ls) (rest : outs (drop x ls) (drop x hs) ≡ drop k (outs ls hs)) where
@@ -43,10 +93,10 @@ module _ (ls : List Line) (hs : List ℕ) (long : length hs ≡ length ls) (k x 
       omega (arith, count)))
       (cases_lt x (length ls))
 
-  module _ (out : (get_or ls x blank_line).kind ≡ 8) where
+  module _ (out : is_out (get_or ls x blank_line) ≡ true) where
     both : get_or hs x 0 ∷ outs (drop (x + 1) ls) (drop (x + 1) hs) ≡ get_or (outs ls hs) k 0 ∷ drop (k + 1) (outs ls hs)
     both =
-        sym (outs_out ls x blank_line out_inside hs 0 (omega (arith, out_inside)) out)
+        sym (outs_out ls x blank_line out_inside hs 0 (omega (arith, out_inside)) (eqb-true (get_or ls x blank_line).kind 8 out))
         ∙ rest
         ∙ drop_more (outs ls hs) k 0 (omega (arith, count))
 
@@ -63,7 +113,7 @@ pub record OutAt (ls : List Line) (hs : List ℕ) (k x : ℕ) : Type 0 where
   pub more : outs (drop (x + 1) ls) (drop (x + 1) hs) ≡ drop (k + 1) (outs ls hs)
 
 pub out_at : (ls : List Line) (hs : List ℕ) → length hs ≡ length ls → (k i x : ℕ) → k < out_count ls → outs (drop i ls) (drop i hs) ≡ drop k (outs ls hs)
-    → outs (drop i ls) (drop i hs) ≡ outs (drop x ls) (drop x hs) → (x < length ls → (get_or ls x blank_line).kind ≡ 8) → OutAt ls hs k x
+    → outs (drop i ls) (drop i hs) ≡ outs (drop x ls) (drop x hs) → (x < length ls → is_out (get_or ls x blank_line) ≡ true) → OutAt ls hs k x
 out_at ls hs long k i x h rest skipped out =
     let here = sym skipped ∙ rest in
     let inside = out_inside ls hs long k x h here in

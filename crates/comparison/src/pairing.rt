@@ -1,6 +1,7 @@
 // Checking the OUT lines of two netlists pairwise.
-ghost use Rattle.std.specs.Prelude.{◌≡◌, ℕ, ◌<◌, ◌≤◌, List, ◌∷◌, ◌++◌, length, drop, slice_index_or};
-ghost use Rattle.netlist.specs.Lines.{outs, out_count};
+ghost use Rattle.std.specs.Prelude.{◌≡◌, ℕ, ◌<◌, ◌≤◌, true, List, ◌∷◌, ◌++◌, length, drop, slice_index_or};
+ghost use Rattle.std.specs.List.{position_or_len};
+ghost use Rattle.netlist.specs.Lines.{is_out, outs, out_count};
 ghost use Rattle.records.specs.Runs.{Run, Kept};
 ghost use Rattle.diagram.specs.Views.{view, room};
 ghost use Rattle.laying.specs.Lays.{blank_line};
@@ -10,24 +11,27 @@ use algebra::Algebra;
 use checking::{Checked, check};
 use diagram::{Memo, Row, Table};
 use faults::PairRefusal;
-use netlist::{Kind, Line};
+use netlist::Line;
 
-const OUT: u8 = Kind::Out as u8;
+// How many lines come before the first OUT line.
+fn before_out(lines: &[Line]) -> usize
+    ensures { result ≡ position_or_len is_out lines.now }
+{
+    lines
+        .iter()
+        .position(|line| line.is_out())
+        .unwrap_or(lines.len())
+}
 
 // The number of the next OUT line, from a line on, or the count of lines where there is none.
 fn next_out(lines: &[Line], from: usize) -> usize
     requires { from ≤ length lines.now }
     ensures within { result ≤ length lines.now }
-    ensures found { result < length lines.now → (slice_index_or lines.now result blank_line).kind ≡ 8 }
+    ensures found { result < length lines.now → is_out (slice_index_or lines.now result blank_line) ≡ true }
     ensures skipped { (xs : List ℕ) → length xs ≡ length lines.now
         → outs (drop from lines.now) (drop from xs) ≡ outs (drop result lines.now) (drop result xs) }
 {
-    for number in from..lines.len() {
-        if lines[number].kind == OUT {
-            return number;
-        }
-    }
-    lines.len()
+    from + before_out(&lines[from..])
 }
 
 // Checks pair n, the n-th OUT line of each netlist, into row n, from the handles of the lines.

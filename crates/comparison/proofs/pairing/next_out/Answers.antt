@@ -1,20 +1,28 @@
-use Rattle.std.proofs.Common.{length, drop, sym, ◌∙◌, arith}
-use Rattle.netlist.proofs.OutLines.{outs_other, outs_all}
-use Rattle.laying.specs.Lays.{blank_line}
+use Rattle.std.proofs.Common.{◌≡◌, ◌+◌, ◌<◌, length, drop, sym, ap, ◌∙◌, subst, arith, length-drop}
+use Rattle.std.specs.List.{position_or_len}
+use Rattle.std.proofs.lemmas.List.{take_rest, drop-drop}
+use Rattle.netlist.specs.Lines.{is_out, outs}
+use Rattle.comparison.proofs.Pairings.{before_within, before_found, before_skips}
 use Rattle.comparison.proofs.pairing.next_out.Goals as goal
 
-pub loop-number-preserved : goal.loop-number-preserved
-loop-number-preserved c xs long =
-    c.loop-number.invariant xs long
-    ∙ outs_other c.args.lines.now c.loop-number.number blank_line c.loop-number-test.true xs 0 (omega (arith, c.loop-number-test.true)) c.if-lines-number-eq-OUT.false
+pub overflow_add-result : goal.overflow_add-result
+overflow_add-result c =
+    let ls = c.args.lines.now in
+    let is : c.before_out.result ≡ position_or_len is_out (drop c.args.from ls) = c.before_out.ensures ∙ ap (position_or_len is_out) (take_rest ls c.args.from) in
+    let long = length-drop c.args.from ls in
+    let within = before_within (drop c.args.from ls) in
+    omega arith
 
 pub returns : goal.returns
 returns c =
     let ls = c.args.lines.now in
+    let from = c.args.from in
+    let k = c.before_out.result in
+    let is : k ≡ position_or_len is_out (drop from ls) = c.before_out.ensures ∙ ap (position_or_len is_out) (take_rest ls from) in
+    let long = length-drop from ls in
+    let within = before_within (drop from ls) in
     record {
       within = omega arith;
-      found = λ h. absurd (omega arith);
-      skipped = λ xs long.
-          c.loop-number.invariant xs long ∙ outs_all ls (drop c.loop-number.number xs) c.loop-number.number c.loop-number-test.false
-          ∙ sym (outs_all ls (drop (length ls) xs) (length ls) (omega arith));
+      found = λ h. before_found ls from k is (omega arith);
+      skipped = λ xs e. before_skips ls from k is xs e;
     }
