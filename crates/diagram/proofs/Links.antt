@@ -9,6 +9,7 @@ use Rattle.memo.specs.Buckets.{bucket_of}
 use Rattle.records.specs.Keys.{blank, record_at, Keyed, Absent}
 use Rattle.diagram.specs.Chains.{chain, chain_at, Chained}
 use Rattle.std.proofs.lemmas.List.{get_or-set_same, get_or-set_other, get_or-take, get_or_append_left, get_or_push, length-take-le, length_push, get_or-replicate, get_or_past, length-replicate}
+use Rattle.std.proofs.lemmas.Grind.{common_steps}
 use Rattle.std.proofs.lemmas.Bool.{cases_eq, cases_lt}
 use Rattle.std.proofs.lemmas.Nat.{and_le_r}
 
@@ -34,26 +35,11 @@ chained {mask} {rs} {heads} {next} t = ∥∥₁_elim t (chained_prop mask rs he
 
 -- what holds of v, and of each other element, holds at each place of the list with v at i
 at_set : (P : ℕ → ℕ → Type 0) (l : List ℕ) (i j v : ℕ) → i < length l → P i v → (j ≢ i → P j (get_or l j 0)) → P j (get_or (set l i v) j 0)
-at_set P l i j v h here there =
-    ⊎_elim
-    (λ e. subst (λ k. P k (get_or (set l i v) k 0)) (sym e) (subst (P i) (sym (get_or-set_same l i v 0 h)) here))
-    (λ ne. subst (P j) (sym (get_or-set_other l i j v 0 ne)) (there ne))
-    (cases_eq j i)
+at_set P l i j v h here there = grind (arith, common_steps, cases_eq j i)
 
 -- what holds of v at the end, and of each other element, holds at each place of the list with v added
 at_push : (P : ℕ → ℕ → Type 0) (l : List ℕ) (n j v : ℕ) → length l ≡ n → P n v → (j ≢ n → P j (get_or l j 0)) → P j (get_or (l ++ v ∷ []) j 0)
-at_push P l n j v len here there =
-    ⊎_elim
-    (λ e. subst (λ k. P k (get_or (l ++ v ∷ []) k 0)) (sym e) (subst (P n) (sym (get_or_push l v 0 n len)) here))
-    (λ ne. subst (P j) (sym (other ne)) (there ne))
-    (cases_eq j n)
-  where
-    other : j ≢ n → get_or (l ++ v ∷ []) j 0 ≡ get_or l j 0
-    other ne =
-        ⊎_elim
-        (λ h. get_or_append_left l (v ∷ []) 0 j (omega arith))
-        (λ h. get_or_past (l ++ v ∷ []) j 0 (omega (arith, length_push l v)) ∙ sym (get_or_past l j 0 (omega arith)))
-        (cases_lt j n)
+at_push P l n j v len here there = grind (arith, common_steps, cases_eq j n, get_or_push l v 0 n len)
 
 pub within : (mask : ℕ) (r : Record) → chain mask r ≤ mask
 unfolding bucket_of
@@ -61,7 +47,7 @@ within mask r = and_le_r _ _
 
 -- a key decides the chain
 pub keyed_chain : (mask : ℕ) (r : Record) (input low high : ℕ) → Keyed r input low high → chain mask r ≡ bucket_of mask input low high
-keyed_chain mask r input low high k = cc (k.0, k.1, k.2)
+keyed_chain mask r input low high k = cc
 
 -- a search for a key has come to the link v: no place from there on up has the key
 abbrev pub Sought : ℕ → List Record → ℕ → ℕ → ℕ → ℕ → Type 0

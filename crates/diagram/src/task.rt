@@ -20,7 +20,7 @@ pub(crate) struct Task {
 }
 
 impl Operation {
-    // The number under which memos file it.
+    // The number under which memos file it; NOT has one that no operator has.
     pub(crate) fn number(self) -> u8
         ensures { result ≡ number_of self }
     {
