@@ -89,11 +89,14 @@ module _ {S F D : Type 0} {steps : S → Option (Bor ℕ) → S → Type 0} (p :
       let within = items.0 in
       let first = run.3 keeps in
       let inside : run.0 < length vs = omega (arith, run.1) in
-      let x = item_and (λ y. y.now) (λ x. Called g f (x, tt) (Some d) f) (p.at run.0) (get_or vs run.0 0) (items.2 run.0 0 run.1) first.0 in
-      (run.0, inside, means run.0 x.0 (Some d) inside x.1 x.2,
+      let x = item_and (λ y. y.now) (λ x. Called g f (x, tt) (Some d) f) (p.at run.0) (get_or vs run.0 0) (items.2 run.0 0 run.1) first.0 in (
+        run.0,
+        inside,
+        means run.0 x.0 (Some d) inside x.1 x.2,
         λ k h.
             let y = item_and (λ y. y.now) (λ x. Called g f (x, tt) None f) (p.at k) (get_or vs k 0) (items.2 k 0 (omega (arith, run.1))) (first.1 k h) in
-            means k y.0 None (omega arith) y.1 y.2)
+            means k y.0 None (omega arith) y.1 y.2,
+      )
 
 -- a grade of the order is a code
 pub grave_code : {o : Ops} → Laws o → (vs : List ℕ) (i v : ℕ) → vs ≡ o.grave → i < length vs → v ≡ get_or vs i v → v < o.count

@@ -33,7 +33,12 @@ fn difference<G: Algebra>(
     let pattern = table.find(algebra, graded, grade).ok()??;
     let left = value_on(table, algebra, x, pattern)?;
     let right = value_on(table, algebra, y, pattern)?;
-    Some(Difference { grade, pattern, left, right })
+    Some(Difference {
+        grade,
+        pattern,
+        left,
+        right,
+    })
 }
 
 // The finding of two handles: the gravest grade that occurs, at its first pattern.

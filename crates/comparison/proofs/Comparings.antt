@@ -1,6 +1,7 @@
 -- Two netlists laid one after the other, as one event. Assumes nothing.
-use Rattle.std.proofs.Common.{◌≡◌, ℕ, ◌+◌, ◌<◌, List, [], ◌∷◌, ◌++◌, map, length, take, drop, None, Ok, Err, Result, sym, refl, ap, ◌∙◌, subst, arith}
-use borrow.Rule.Slice.PartMut.{post_of}
+use Rattle.std.proofs.Common.{◌≡◌, ℕ, ◌+◌, ◌-◌, ◌<◌, ◌≤◌, List, [], ◌∷◌, ◌++◌, map, length, take, drop, None, Ok, Err, Result, sym, refl, ap, ◌∙◌, subst, arith}
+use borrow.Rule.Slice.PartMut.{put_mid, post_of}
+use Rattle.netlist.proofs.TwoParts.{front_part, back_part, rest_part, second_length}
 use Rattle.std.proofs.lemmas.List.{length-take-le, take_all, take_at, drop_at, drop-drop}
 use Rattle.algebra.specs.Ops.{Ops}
 use Rattle.algebra.specs.Laws.{Laws}
@@ -87,6 +88,46 @@ module _ {X : Type 0} (a b k0 : ℕ) (xs u : List X) (e0 : k0 ≡ a) (lu : lengt
 
   pub rest_first : drop (a + b) (u ++ post_of 0 k0 xs) ≡ drop (a + b) xs
   rest_first = sym (drop-drop b a (u ++ post_of 0 k0 xs)) ∙ ap (drop b) after_first ∙ drop-drop b a xs
+
+-- both parts are written, the first as hs and the second as ks
+pub record Parted (a b : ℕ) (xs hs ks mid whole : List ℕ) : Type 0 where
+  pub long : length (take (a - 0) xs) ≡ a
+  pub lu : length hs ≡ a
+  pub old : take a xs ≡ take (a - 0) xs
+  pub long2 : length (take (a + b - a) (drop a mid)) ≡ b
+  pub lv : length ks ≡ b
+  pub old2 : take b (drop a xs) ≡ take (a + b - a) (drop a mid)
+  pub isl : take (a - 0) whole ≡ hs
+  pub isr : take (a + b - a) (drop a whole) ≡ ks
+  pub front : take a whole ≡ hs
+  pub back : take b (drop a whole) ≡ ks
+  pub rest : drop (a + b) whole ≡ drop (a + b) xs
+
+pub parted : (a b : ℕ) (xs hs ks : List ℕ) → a + b ≤ length xs → length hs ≡ length (take (a - 0) xs) → length ks ≡ length (take (a + b - a) (drop a (hs ++ post_of 0 (a - 0) xs)))
+    → Parted a b xs hs ks (hs ++ post_of 0 (a - 0) xs) (put_mid a (a + b - a) (hs ++ post_of 0 (a - 0) xs) ks)
+parted a b xs hs ks enough first second =
+    let mid = hs ++ post_of 0 (a - 0) xs in
+    let whole = put_mid a (a + b - a) mid ks in
+    let e0 : a - 0 ≡ a = omega arith in
+    let e1 : a + b - a ≡ b = omega arith in
+    let long : length (take (a - 0) xs) ≡ a = length-take-le (a - 0) xs (omega arith) ∙ e0 in
+    let lu : length hs ≡ a = first ∙ long in
+    let lv : length ks ≡ b = second_length a b (a - 0) (a + b - a) xs hs ks e0 e1 lu enough second in
+    let isl = front_part a b (a - 0) (a + b - a) xs hs ks e0 e1 lu lv in
+    let isr = back_part a b (a - 0) (a + b - a) xs hs ks e0 e1 lu lv in
+    record {
+      long = long;
+      lu = lu;
+      old = ap (λ k. take k xs) (sym e0);
+      long2 = sym second ∙ lv;
+      lv = lv;
+      old2 = sym (back_first a b (a - 0) xs hs e0 lu) ∙ ap (λ k. take k (drop a mid)) (sym e1);
+      isl = isl;
+      isr = isr;
+      front = ap (λ k. take k whole) (sym e0) ∙ isl;
+      back = ap (λ k. take k (drop a whole)) (sym e1) ∙ isr;
+      rest = rest_part a b (a - 0) (a + b - a) xs hs ks e0 e1 lu lv;
+    }
 
 -- the same of equal lists
 pub parts_moved : (o : Ops) (s t : Store) (ls ms : List Line) (hs hs₁ hs' hs₁' ks ks₁ ks' ks₁' : List ℕ) (cs cs' : List Checked) (r : Result (Unit {0}) CompareFault)

@@ -49,7 +49,7 @@ found_at : (ls : List Line) (d : Line) → before ls < length ls → is_out (get
 found_at [] d = λ h. absurd (omega arith)
 found_at (l ∷ ls) d =
     (elim (is_out l) as (λ b. is_out l ≡ b → cond (not b) (1 + before ls) 0 < suc (length ls) → is_out (get_or (l ∷ ls) (cond (not b) (1 + before ls) 0) d) ≡ true) [
-      true ↦ λ e h. e
+      | true ↦ λ e h. e
       | false ↦ λ e h. let one : 1 + before ls ≡ suc (before ls) = omega arith in ap (λ n. is_out (get_or (l ∷ ls) n d)) one ∙ found_at ls d (omega arith)
     ]) refl
 
@@ -60,7 +60,7 @@ skips_at (l ∷ ls) [] e = absurd (omega arith)
 skips_at (l ∷ ls) (x ∷ xs) e =
     let rest = skips_at ls xs (omega arith) in
     (elim (is_out l) as (λ b. is_out l ≡ b → cond b (x ∷ outs ls xs) (outs ls xs) ≡ outs (drop (cond (not b) (1 + before ls) 0) (l ∷ ls)) (drop (cond (not b) (1 + before ls) 0) (x ∷ xs))) [
-      true ↦ λ is. ap (λ b. cond b (x ∷ outs ls xs) (outs ls xs)) (sym is)
+      | true ↦ λ is. ap (λ b. cond b (x ∷ outs ls xs) (outs ls xs)) (sym is)
       | false ↦ λ is. let one : suc (before ls) ≡ 1 + before ls = omega arith in rest ∙ ap (λ n. outs (drop n (l ∷ ls)) (drop n (x ∷ xs))) one
     ]) refl
 

@@ -14,6 +14,7 @@ use laying::lay;
 use netlist::{Line, count_pairs};
 
 // Lays both netlists, the second one's handles after the first one's, and checks their OUT lines pairwise, a row for each.
+// The netlists and lists stay apart: each clause names one of them, and a struct of `&mut`s needs more clauses, on references.
 fn compare_parts<G: Algebra, M: Memo>(
     table: &mut Table,
     algebra: &G,
@@ -36,10 +37,16 @@ fn compare_parts<G: Algebra, M: Memo>(
 {
     let middle = first.len();
     let end = middle + second.len();
-    lay(table, algebra, memo, rows, first, &mut handles[0..middle])
-        .map_err(CompareFault::First)?;
-    lay(table, algebra, memo, rows, second, &mut handles[middle..end])
-        .map_err(CompareFault::Second)?;
+    lay(table, algebra, memo, rows, first, &mut handles[0..middle]).map_err(CompareFault::First)?;
+    lay(
+        table,
+        algebra,
+        memo,
+        rows,
+        second,
+        &mut handles[middle..end],
+    )
+    .map_err(CompareFault::Second)?;
     check_pairs(
         table,
         algebra,

@@ -56,13 +56,15 @@ pub(crate) fn check_pairs<G: Algebra, M: Memo>(
     ensures kept { (run : Run) → Kept G.ops (room table.old) (no_pairs first.now second.now left.now right.now ∷ run) (view table.old) (M.recalls memo.old)
         → Kept G.ops (room table.old) (pairs_event first.now second.now left.now right.now found.new result ∷ run) (view table.new) (M.recalls memo.new) }
 {
+    // places beside the pair's number: a `for` over a chain of the OUT lines has no invariant in a generic function yet
     let mut from_left = 0;
     let mut from_right = 0;
     for pair in 0..found.len() {
         let x = next_out(first, from_left);
         let y = next_out(second, from_right);
-        let checked = check(table, algebra, memo, rows, left[x], right[y])
-            .map_err(|fault| PairRefusal { pair, fault })?;
+        let checked = check(table, algebra, memo, rows, left[x], right[y]).map_err(
+            |fault| PairRefusal { pair, fault },
+        )?;
         found[pair] = checked;
         from_left = x + 1;
         from_right = y + 1;

@@ -93,7 +93,7 @@ impl From<LineRefusal> for LayFault {
     }
 }
 
-// The pair of OUT lines that is refused, and why.
+// The pair of OUT lines that is refused, and why. A pair is no line, so this is no `Located`.
 #[derive(Clone, Copy, PartialEq, Eq, Debug)]
 pub struct PairRefusal {
     pub pair: usize,

@@ -87,8 +87,9 @@ pub fn lay<G: Algebra, M: Memo>(
     }
     for (number, line) in lines.iter().enumerate() {
         // by its number, since the line reads the handles so far
-        let h = lay_line(table, algebra, memo, rows, number, *line, handles)
-            .map_err(|fault| fault.at(number))?;
+        let h = lay_line(table, algebra, memo, rows, number, *line, handles).map_err(
+            |fault| fault.at(number),
+        )?;
         handles[number] = h;
     }
     Ok(())

@@ -118,9 +118,10 @@ fn replay_lending<G: Algebra, M: Memo, const APART: bool>(
         return Err(ReplayFault::ShortList);
     }
     table.start(memo, inputs).map_err(ReplayFault::Table)?;
-    // where the entries begin that no call has for itself
+    // where the entries begin that no call has for itself: of a list cut to its rest, nothing is known of the front
     let mut next = 0;
     let mut row = 0;
+    // by number, since after a chain over `told` nothing is known of what it wrote
     for (number, call) in calls.iter().enumerate() {
         told[number] = make_call(
             table,

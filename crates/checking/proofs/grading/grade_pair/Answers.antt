@@ -22,10 +22,10 @@ returns g c graded =
     let left = value o s c.args.x in
     let right = value o s c.args.y in
     gravest_tried (2 ^ s.inputs) v left right vs c.find_map.result c.map_or.result
-        (finds p _ _ vs items (tried (2 ^ s.inputs) v left right vs) (λ a r f e. search rules)
-            (λ k x q h e called.
-                let told : Graded o s c.args.graded c.args.x c.args.y → x.now < o.count → q ≡ difference_of left right x.now (first s.inputs v x.now) = search (rules, of_calls) in
-                told graded (grave_code g.G.Algebra.laws vs k x.now same h (e ∙ get_or_default vs k 0 x.now h)) ∙ ap (λ w. difference_of left right w (first_below (2 ^ s.inputs) v w)) e)
-            c.find_map.result run.2)
-        (match_option _ c.find_map.result (λ d e. search (rules, of_calls)) c.map_or.ensures)
+    (finds p _ _ vs items (tried (2 ^ s.inputs) v left right vs) (λ a r f e. search rules)
+    (λ k x q h e called.
+    let told : Graded o s c.args.graded c.args.x c.args.y → x.now < o.count → q ≡ difference_of left right x.now (first s.inputs v x.now) = search (rules, of_calls) in
+    told graded (grave_code g.G.Algebra.laws vs k x.now same h (e ∙ get_or_default vs k 0 x.now h)) ∙ ap (λ w. difference_of left right w (first_below (2 ^ s.inputs) v w)) e)
+    c.find_map.result run.2)
+    (match_option _ c.find_map.result (λ d e. search (rules, of_calls)) c.map_or.ensures)
     ∙ graded_finding graded vs same

@@ -81,12 +81,12 @@ loop-number-preserved g c =
     let fsN = put_mid row (length fs - row) fs fs' in
     let After : ℕ → ℕ → ℕ → Type 0 = λ m a b. Running (apart g.row.APART) o m c.args.inputs (length c.args.rows.now) ls c.args.calls.now c.args.handles.now c.args.found.now c.args.told.now (view table) Q hsN fsN (set c.loop-number.told i c.make_call.result) (i + 1) a b in
     let more =
-        running_on running _ c.make_call.result h (let e = c.loop-number.auto.told in omega (arith, c.if-told-calls.false)) (get_or_default c.args.calls.now i _ _ h) told.inputs
-        c.make_call.auto.handles told.handles c.make_call.auto.found told.found c.loop-number.auto.rows told.made
+    running_on running _ c.make_call.result h (let e = c.loop-number.auto.told in omega (arith, c.if-told-calls.false)) (get_or_default c.args.calls.now i _ _ h) told.inputs
+    c.make_call.auto.handles told.handles c.make_call.auto.found told.found c.loop-number.auto.rows told.made
     in (
       subst (λ m. After m c.if-this-ne0.next c.if-this-ne0.row) (sym told.room)
           (elim c.if-this-ne0.branch as (λ _. After (room c.loop-number.table) c.if-this-ne0.next c.if-this-ne0.row) [
-            then-this-ne0 w ↦
+            | then-this-ne0 w ↦
                 subst (λ a. After (room c.loop-number.table) a c.if-this-ne0.row) (sym w.next-is)
                 (subst (λ b. After (room c.loop-number.table) (next + w.min-next.result) b) (sym w.row-is)
                 (more.0 (apart_on g.row.APART (omega arith)) w.min-next.result w.min-row.result
@@ -109,7 +109,7 @@ returns g c =
     let fits : length c.args.calls.now ≤ length c.args.told.now = omega (arith, c.if-told-calls.false) in
     let few : c.args.inputs ≤ 60 = omega (arith, (well table.well).few, inv.0.inputs) in
     let running =
-        subst (λ m. Running (apart g.row.APART) o m c.args.inputs (length c.args.rows.now) c.args.lines.now c.args.calls.now c.args.handles.now c.args.found.now c.args.told.now (view table) (g.M.Memo.recalls c.loop-number.memo) c.loop-number.handles c.loop-number.found c.loop-number.told c.loop-number.number c.loop-number.next c.loop-number.row) e inv.0
+    subst (λ m. Running (apart g.row.APART) o m c.args.inputs (length c.args.rows.now) c.args.lines.now c.args.calls.now c.args.handles.now c.args.found.now c.args.told.now (view table) (g.M.Memo.recalls c.loop-number.memo) c.loop-number.handles c.loop-number.found c.loop-number.told c.loop-number.number c.loop-number.next c.loop-number.row) e inv.0
     in
     let ran = running_all (apart g.row.APART) before running ended fits few in
     record { answer = (fits, few, ran.1); lent = ran.0; room = e }
