@@ -1,22 +1,35 @@
-use crate::cases::FRAME;
+use crate::desk::Desk;
 use crate::told::Found;
 use algebra::{Algebra, FiveValued, TwoValued};
 use anyhow::anyhow;
-use comparison::{Checked, compare, lay};
+use comparison::{Checked, compare};
 use diagram::{Memo, NoMemo, RowMemo, Table};
 use evaluation::{compare_by_patterns, evaluate};
 use netlist::{Finding, Kind, Line, Pattern};
-
-const CLEAN: Checked = Checked {
-    handle: 0,
-    finding: Finding::Clean,
-};
+use std::fmt;
 
 // How many values a table and the evaluator had in common, and how many not.
-#[derive(Clone, Copy)]
+#[derive(Clone, Copy, Default)]
 struct Tally {
     same: u32,
     other: u32,
+}
+
+impl Tally {
+    fn add(&mut self, agrees: bool) {
+        let count = if agrees {
+            &mut self.same
+        } else {
+            &mut self.other
+        };
+        *count = count.wrapping_add(1);
+    }
+}
+
+impl fmt::Display for Tally {
+    fn fmt<W: fmt::Write>(&self, f: &mut fmt::Formatter<W>) -> fmt::Result {
+        write!(f, "{} values agree, {} do not", self.same, self.other)
+    }
 }
 
 fn line(kind: Kind, first: u32, second: u32) -> Line {
@@ -27,68 +40,50 @@ fn line(kind: Kind, first: u32, second: u32) -> Line {
     }
 }
 
-// The values of all lines on one pattern, from the table and from the evaluator.
+// Adds the values of all lines on one pattern, from the table and from the evaluator.
 fn tally_pattern<G: Algebra>(
+    tally: &mut Tally,
     table: &Table,
     algebra: &G,
     lines: &[Line],
     handles: &[u32],
     pattern: Pattern,
-    tally: Tally,
-) -> Tally {
+) -> anyhow::Result<()> {
     let mut values = [0u8; 16];
-    let mut tally = tally;
-    if evaluate(algebra, lines, pattern, &mut values).is_err() {
-        tally.other = u32::MAX;
-    }
+    evaluate(algebra, lines, pattern, &mut values).map_err(|fault| anyhow!(
+        "refused {}",
+        fault.number()
+    ))?;
     for (handle, value) in handles.iter().zip(values.iter()).take(lines.len()) {
-        match table.value(algebra, *handle, pattern) {
-            Ok(own) if own == *value => tally.same = tally.same.wrapping_add(1),
-            _ => tally.other = tally.other.wrapping_add(1),
-        }
+        tally.add(table.value(algebra, *handle, pattern) == Ok(*value));
     }
-    tally
+    Ok(())
 }
 
 // Lays a netlist of up to three inputs and 16 lines, and compares its lines on every pattern.
-fn tally_netlist<G: Algebra>(
+fn tally_netlist<G: Algebra + Drop>(
     rt: &HostRuntime,
-    algebra: &G,
+    algebra: G,
     places: usize,
     inputs: u8,
     lines: &[Line],
 ) -> anyhow::Result<Tally> {
-    let mut table = Table::new(rt.alloc(), places)?;
-    let mut memo = RowMemo::new(rt.alloc(), 8)?;
-    let mut rows = [FRAME; 4];
+    let memo = RowMemo::new(rt.alloc(), 8)?;
+    let mut desk = Desk::new(rt, algebra, memo, places, inputs)?;
     let mut handles = [0u32; 16];
-    let mut tally = Tally { same: 0, other: 0 };
-    let _ = table.start(&mut memo, inputs);
-    if lay(
-        &mut table,
-        algebra,
-        &mut memo,
-        &mut rows,
-        lines,
-        &mut handles,
-    )
-    .is_err()
-    {
-        return Err(anyhow!("refused"));
-    }
-    for number in 0..8u64 {
-        if let Ok(pattern) = Pattern::new(inputs, number) {
-            tally = tally_pattern(&table, algebra, lines, &handles, pattern, tally);
-        }
+    desk.lay(lines, &mut handles)?;
+    let mut tally = Tally::default();
+    for pattern in (0..u64::MAX).map_while(|number| Pattern::new(inputs, number).ok()) {
+        tally_pattern(
+            &mut tally,
+            &desk.table,
+            &desk.algebra,
+            lines,
+            &handles,
+            pattern,
+        )?;
     }
     Ok(tally)
-}
-
-fn print_tally(rt: &HostRuntime, what: &str, tally: Tally) -> anyhow::Result<()> {
-    let same = tally.same;
-    let other = tally.other;
-    println!(rt; "{what} beside the evaluator: {same} values agree, {other} do not")?;
-    Ok(())
 }
 
 // The cases of one signal as netlists: each line has the evaluator's value on every pattern.
@@ -99,11 +94,8 @@ pub(crate) fn values_beside_evaluator(rt: &HostRuntime) -> anyhow::Result<()> {
         line(Kind::Not, 0, 0),
         line(Kind::And, 0, 2),
     ];
-    print_tally(
-        rt,
-        "two places",
-        tally_netlist(rt, &TwoValued, 2, 2, &two_places)?,
-    )?;
+    let tally = tally_netlist(rt, TwoValued, 2, 2, &two_places)?;
+    println!(rt; "two places beside the evaluator: {tally}")?;
     let three_parts = [
         line(Kind::Input, 0, 0),
         line(Kind::Input, 1, 0),
@@ -120,11 +112,8 @@ pub(crate) fn values_beside_evaluator(rt: &HostRuntime) -> anyhow::Result<()> {
         line(Kind::IfOr, 9, 11),
         line(Kind::Not, 12, 0),
     ];
-    print_tally(
-        rt,
-        "the sample",
-        tally_netlist(rt, &FiveValued, 64, 3, &three_parts)?,
-    )?;
+    let tally = tally_netlist(rt, FiveValued, 64, 3, &three_parts)?;
+    println!(rt; "the sample beside the evaluator: {tally}")?;
     let floating = [
         line(Kind::Const, 3, 0),
         line(Kind::Not, 0, 0),
@@ -134,39 +123,33 @@ pub(crate) fn values_beside_evaluator(rt: &HostRuntime) -> anyhow::Result<()> {
         line(Kind::Not, 4, 0),
         line(Kind::Not, 5, 0),
     ];
-    print_tally(
-        rt,
-        "a floating wire",
-        tally_netlist(rt, &FiveValued, 64, 1, &floating)?,
-    )?;
+    let tally = tally_netlist(rt, FiveValued, 64, 1, &floating)?;
+    println!(rt; "a floating wire beside the evaluator: {tally}")?;
     Ok(())
 }
 
 // The finding of one pair of outputs, by a table with some memo.
-fn pair_by_table<M: Memo>(
+fn pair_by_table<M: Memo + Drop>(
     rt: &HostRuntime,
-    memo: &mut M,
+    memo: M,
     first: &[Line],
     second: &[Line],
 ) -> anyhow::Result<Finding> {
-    let mut table = Table::new(rt.alloc(), 64)?;
-    let mut rows = [FRAME; 4];
+    let mut desk = Desk::new(rt, FiveValued, memo, 64, 2)?;
     let mut handles = [0u32; 16];
     let mut found = [CLEAN; 1];
-    let _ = table.start(memo, 2);
-    match compare(
-        &mut table,
-        &FiveValued,
-        memo,
-        &mut rows,
+    compare(
+        &mut desk.table,
+        &desk.algebra,
+        &mut desk.memo,
+        &mut desk.rows,
         first,
         second,
         &mut handles,
         &mut found,
-    ) {
-        Ok(_) => Ok(found[0].finding),
-        Err(_) => Err(anyhow!("refused")),
-    }
+    )
+    .map_err(|fault| anyhow!("refused {}", fault.number()))?;
+    Ok(found[0].finding)
 }
 
 // A driver that lets go of the bus, against gates that take the empty bus for 1: by tables and by the evaluator.
@@ -188,12 +171,13 @@ pub(crate) fn findings_beside_evaluator(rt: &HostRuntime) -> anyhow::Result<()> 
         line(Kind::Or, 2, 1),
         line(Kind::Out, 3, 0),
     ];
-    let mut rows_memo = RowMemo::new(rt.alloc(), 8)?;
-    let kept = pair_by_table(rt, &mut rows_memo, &bus, &gates)?;
-    let forgotten = pair_by_table(rt, &mut NoMemo, &bus, &gates)?;
+    let kept = pair_by_table(rt, RowMemo::new(rt.alloc(), 8)?, &bus, &gates)?;
+    let forgotten = pair_by_table(rt, NoMemo, &bus, &gates)?;
     let mut values = [0u8; 16];
     let mut found = [Finding::Clean; 1];
-    let _ = compare_by_patterns(&FiveValued, 2, &bus, &gates, &mut values, &mut found);
+    compare_by_patterns(&FiveValued, 2, &bus, &gates, &mut values, &mut found).map_err(
+        |fault| anyhow!("refused {}", fault.number()),
+    )?;
     println!(rt; "a bus by a table with a memo: {}", Found(kept))?;
     println!(rt;
         "a bus by a table with a memo that keeps none: {}",
@@ -202,3 +186,8 @@ pub(crate) fn findings_beside_evaluator(rt: &HostRuntime) -> anyhow::Result<()> 
     println!(rt; "a bus by the evaluator: {}", Found(found[0]))?;
     Ok(())
 }
+
+const CLEAN: Checked = Checked {
+    handle: 0,
+    finding: Finding::Clean,
+};

@@ -3,6 +3,7 @@
 
 mod beside;
 mod cases;
+mod desk;
 mod told;
 
 use beside::{findings_beside_evaluator, values_beside_evaluator};

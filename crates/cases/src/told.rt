@@ -1,19 +1,29 @@
 use diagram::TableFault;
 use netlist::Finding;
+use std::error::Error;
 use std::fmt;
+
+// A call that was refused.
+#[derive(Clone, Copy, Debug)]
+pub struct Refused(pub TableFault);
+
+impl fmt::Display for Refused {
+    fn fmt<W: fmt::Write>(&self, f: &mut fmt::Formatter<W>) -> fmt::Result {
+        write!(f, "refused {}", self.0.number())
+    }
+}
+
+impl Error for Refused {}
 
 // What a call was told, as a person reads it.
 #[derive(Clone, Copy)]
-pub struct Told(pub Result<u32, TableFault>);
+pub struct Told(pub Result<u32, Refused>);
 
 impl fmt::Display for Told {
     fn fmt<W: fmt::Write>(&self, f: &mut fmt::Formatter<W>) -> fmt::Result {
         match self.0 {
             Ok(handle) => write!(f, "handle {handle}"),
-            Err(fault) => {
-                let number = fault.number();
-                write!(f, "refused {number}")
-            }
+            Err(refused) => write!(f, "{refused}"),
         }
     }
 }
@@ -26,16 +36,11 @@ impl fmt::Display for Found {
     fn fmt<W: fmt::Write>(&self, f: &mut fmt::Formatter<W>) -> fmt::Result {
         match self.0 {
             Finding::Clean => write!(f, "clean"),
-            Finding::Differs(d) => {
-                let grade = d.grade;
-                let pattern = d.pattern;
-                let left = d.left;
-                let right = d.right;
-                write!(
-                    f,
-                    "grade {grade} on pattern {pattern}: {left} against {right}"
-                )
-            }
+            Finding::Differs(d) => write!(
+                f,
+                "grade {} on pattern {}: {} against {}",
+                d.grade, d.pattern, d.left, d.right
+            ),
         }
     }
 }

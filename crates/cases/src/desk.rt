@@ -1,0 +1,101 @@
+use crate::told::Refused;
+use algebra::{Algebra, Op};
+use anyhow::anyhow;
+use comparison::{Checked, check, lay};
+use diagram::{Memo, Row, Table};
+use netlist::Line;
+
+// A table of up to three inputs, with what its calls take beside it.
+#[derive(Drop)]
+pub(crate) struct Desk<G, M> {
+    pub table: Table,
+    pub algebra: G,
+    pub memo: M,
+    pub rows: [Row; 4],
+}
+
+impl<G: Algebra + Drop, M: Memo + Drop> Desk<G, M> {
+    // A started table of so many places.
+    pub(crate) fn new(
+        rt: &HostRuntime,
+        algebra: G,
+        memo: M,
+        places: usize,
+        inputs: u8,
+    ) -> anyhow::Result<Desk<G, M>> {
+        let mut desk = Desk {
+            table: Table::new(rt.alloc(), places)?,
+            algebra,
+            memo,
+            rows: [BLANK; 4],
+        };
+        desk.table.start(&mut desk.memo, inputs).map_err(Refused)?;
+        Ok(desk)
+    }
+
+    pub(crate) fn input(&mut self, input: u8) -> Result<u32, Refused> {
+        let told = self.table.input(&self.algebra, &mut self.memo, input);
+        told.map_err(Refused)
+    }
+
+    pub(crate) fn turn(&mut self, x: u32) -> Result<u32, Refused> {
+        let told = self
+            .table
+            .turn(&self.algebra, &mut self.memo, &mut self.rows, x);
+        told.map_err(Refused)
+    }
+
+    pub(crate) fn join(&mut self, op: Op, x: u32, y: u32) -> Result<u32, Refused> {
+        let told = self.table.join(
+            &self.algebra,
+            &mut self.memo,
+            &mut self.rows,
+            op.number(),
+            x,
+            y,
+        );
+        told.map_err(Refused)
+    }
+
+    pub(crate) fn check(&mut self, x: u32, y: u32) -> Result<Checked, Refused> {
+        let told = check(
+            &mut self.table,
+            &self.algebra,
+            &mut self.memo,
+            &mut self.rows,
+            x,
+            y,
+        );
+        told.map_err(Refused)
+    }
+
+    // Lays a netlist, whose lines' handles go into a list.
+    pub(crate) fn lay(&mut self, lines: &[Line], handles: &mut [u32]) -> anyhow::Result<()> {
+        let told = lay(
+            &mut self.table,
+            &self.algebra,
+            &mut self.memo,
+            &mut self.rows,
+            lines,
+            handles,
+        );
+        told.map_err(|fault| anyhow!("refused {}", fault.number()))
+    }
+
+    // IF `when` THEN `then` ELSE `other`, by two gates of IFAND under an IFOR.
+    pub(crate) fn choose(&mut self, when: u32, then: u32, other: u32) -> Result<u32, Refused> {
+        let not_when = self.turn(when)?;
+        let yes = self.join(Op::IfAnd, when, then)?;
+        let no = self.join(Op::IfAnd, not_when, other)?;
+        self.join(Op::IfOr, yes, no)
+    }
+}
+
+// In place of Row::default().
+pub(crate) const BLANK: Row = Row {
+    input: 0,
+    low: 0,
+    high: 0,
+    low_other: 0,
+    high_other: 0,
+};
