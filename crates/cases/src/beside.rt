@@ -1,9 +1,8 @@
 use crate::desk::Desk;
-use crate::told::Found;
+use crate::told::{Found, Refused};
 use algebra::{Algebra, FiveValued, TwoValued};
-use anyhow::anyhow;
 use comparison::{Checked, compare};
-use diagram::{Memo, NoMemo, RowMemo, Table};
+use diagram::{Memo, NoMemo, RowMemo};
 use evaluation::{compare_by_patterns, evaluate};
 use netlist::{Finding, Kind, Line, Pattern};
 use std::fmt;
@@ -34,33 +33,13 @@ impl fmt::Display for Tally {
 
 fn line(kind: Kind, first: u32, second: u32) -> Line {
     Line {
-        kind: kind.number(),
+        kind: u8::from(kind),
         first,
         second,
     }
 }
 
-// Adds the values of all lines on one pattern, from the table and from the evaluator.
-fn tally_pattern<G: Algebra>(
-    tally: &mut Tally,
-    table: &Table,
-    algebra: &G,
-    lines: &[Line],
-    handles: &[u32],
-    pattern: Pattern,
-) -> anyhow::Result<()> {
-    let mut values = [0u8; 16];
-    evaluate(algebra, lines, pattern, &mut values).map_err(|fault| anyhow!(
-        "refused {}",
-        fault.number()
-    ))?;
-    for (handle, value) in handles.iter().zip(values.iter()).take(lines.len()) {
-        tally.add(table.value(algebra, *handle, pattern) == Ok(*value));
-    }
-    Ok(())
-}
-
-// Lays a netlist of up to three inputs and 16 lines, and compares its lines on every pattern.
+// Lays a netlist of up to three inputs, and compares its lines on every pattern.
 fn tally_netlist<G: Algebra + Drop>(
     rt: &HostRuntime,
     algebra: G,
@@ -70,18 +49,16 @@ fn tally_netlist<G: Algebra + Drop>(
 ) -> anyhow::Result<Tally> {
     let memo = RowMemo::new(rt.alloc(), 8)?;
     let mut desk = Desk::new(rt, algebra, memo, places, inputs)?;
-    let mut handles = [0u32; 16];
+    let mut handles = vec![in rt.alloc(); 0u32; lines.len()]?;
     desk.lay(lines, &mut handles)?;
+    let mut values = vec![in rt.alloc(); 0u8; lines.len()]?;
     let mut tally = Tally::default();
     for pattern in (0..u64::MAX).map_while(|number| Pattern::new(inputs, number).ok()) {
-        tally_pattern(
-            &mut tally,
-            &desk.table,
-            &desk.algebra,
-            lines,
-            &handles,
-            pattern,
-        )?;
+        evaluate(&desk.algebra, lines, pattern, &mut values).map_err(Refused::Evaluate)?;
+        for (handle, value) in handles.iter().zip(values.iter()) {
+            let told = desk.table.value(&desk.algebra, *handle, pattern);
+            tally.add(told == Ok(*value));
+        }
     }
     Ok(tally)
 }
@@ -136,8 +113,8 @@ fn pair_by_table<M: Memo + Drop>(
     second: &[Line],
 ) -> anyhow::Result<Finding> {
     let mut desk = Desk::new(rt, FiveValued, memo, 64, 2)?;
-    let mut handles = [0u32; 16];
-    let mut found = [CLEAN; 1];
+    let mut handles = vec![in rt.alloc(); 0u32; first.len() + second.len()]?;
+    let mut found = [Checked::default(); 1];
     compare(
         &mut desk.table,
         &desk.algebra,
@@ -148,7 +125,7 @@ fn pair_by_table<M: Memo + Drop>(
         &mut handles,
         &mut found,
     )
-    .map_err(|fault| anyhow!("refused {}", fault.number()))?;
+    .map_err(Refused::Compare)?;
     Ok(found[0].finding)
 }
 
@@ -173,10 +150,10 @@ pub(crate) fn findings_beside_evaluator(rt: &HostRuntime) -> anyhow::Result<()> 
     ];
     let kept = pair_by_table(rt, RowMemo::new(rt.alloc(), 8)?, &bus, &gates)?;
     let forgotten = pair_by_table(rt, NoMemo, &bus, &gates)?;
-    let mut values = [0u8; 16];
+    let mut values = vec![in rt.alloc(); 0u8; bus.len() + gates.len()]?;
     let mut found = [Finding::Clean; 1];
     compare_by_patterns(&FiveValued, 2, &bus, &gates, &mut values, &mut found).map_err(
-        |fault| anyhow!("refused {}", fault.number()),
+        Refused::CompareByPatterns,
     )?;
     println!(rt; "a bus by a table with a memo: {}", Found(kept))?;
     println!(rt;
@@ -186,8 +163,3 @@ pub(crate) fn findings_beside_evaluator(rt: &HostRuntime) -> anyhow::Result<()> 
     println!(rt; "a bus by the evaluator: {}", Found(found[0]))?;
     Ok(())
 }
-
-const CLEAN: Checked = Checked {
-    handle: 0,
-    finding: Finding::Clean,
-};

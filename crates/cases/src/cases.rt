@@ -1,9 +1,8 @@
-use crate::desk::{BLANK, Desk};
+use crate::desk::Desk;
 use crate::told::{Found, Refused, Told};
 use algebra::{FiveValued, Op, TwoValued};
-use anyhow::anyhow;
 use comparison::{Call, Told as Answer, replay};
-use diagram::{Memo, NoMemo, RowMemo, Table};
+use diagram::{Memo, NoMemo, Row, RowMemo, Table};
 use netlist::Finding;
 
 // The codes of the values that are no bits.
@@ -34,7 +33,7 @@ pub(crate) fn two_places(rt: &HostRuntime) -> anyhow::Result<()> {
 
 // The same as a list of calls. Place p has handle 16 + 2p, and its NOT the number after it.
 pub(crate) fn two_places_replayed(rt: &HostRuntime) -> anyhow::Result<()> {
-    let and = Op::And.number();
+    let and = u8::from(Op::And);
     let calls = [
         Call::Input(0),
         Call::Input(1),
@@ -45,7 +44,7 @@ pub(crate) fn two_places_replayed(rt: &HostRuntime) -> anyhow::Result<()> {
     ];
     let mut table = Table::new(rt.alloc(), 2)?;
     let mut memo = RowMemo::new(rt.alloc(), 8)?;
-    let mut rows = [BLANK; 3];
+    let mut rows = [Row::default(); 3];
     let mut told = [Answer::Handle(Ok(0)); 6];
     replay(
         &mut table,
@@ -59,10 +58,10 @@ pub(crate) fn two_places_replayed(rt: &HostRuntime) -> anyhow::Result<()> {
         &mut [],
         &mut told,
     )
-    .map_err(|fault| anyhow!("refused {}", fault.number()))?;
+    .map_err(Refused::Replay)?;
     for answer in told {
         if let Answer::Handle(handle) = answer {
-            println!(rt; "replayed: {}", Told(handle.map_err(Refused)))?;
+            println!(rt; "replayed: {}", Told(handle.map_err(Refused::Table)))?;
         }
     }
     Ok(())
@@ -74,7 +73,7 @@ pub(crate) fn inputs_limit(rt: &HostRuntime) -> anyhow::Result<()> {
     for inputs in 60..62u8 {
         match table.start(&mut NoMemo, inputs) {
             Ok(()) => println!(rt; "{inputs} inputs: started")?,
-            Err(fault) => println!(rt; "{inputs} inputs: {}", Refused(fault))?,
+            Err(fault) => println!(rt; "{inputs} inputs: {}", Refused::Table(fault))?,
         }
     }
     Ok(())

@@ -1,6 +1,5 @@
 use crate::told::Refused;
 use algebra::{Algebra, Op};
-use anyhow::anyhow;
 use comparison::{Checked, check, lay};
 use diagram::{Memo, Row, Table};
 use netlist::Line;
@@ -27,22 +26,24 @@ impl<G: Algebra + Drop, M: Memo + Drop> Desk<G, M> {
             table: Table::new(rt.alloc(), places)?,
             algebra,
             memo,
-            rows: [BLANK; 4],
+            rows: [Row::default(); 4],
         };
-        desk.table.start(&mut desk.memo, inputs).map_err(Refused)?;
+        desk.table
+            .start(&mut desk.memo, inputs)
+            .map_err(Refused::Table)?;
         Ok(desk)
     }
 
     pub(crate) fn input(&mut self, input: u8) -> Result<u32, Refused> {
         let told = self.table.input(&self.algebra, &mut self.memo, input);
-        told.map_err(Refused)
+        told.map_err(Refused::Table)
     }
 
     pub(crate) fn turn(&mut self, x: u32) -> Result<u32, Refused> {
         let told = self
             .table
             .turn(&self.algebra, &mut self.memo, &mut self.rows, x);
-        told.map_err(Refused)
+        told.map_err(Refused::Table)
     }
 
     pub(crate) fn join(&mut self, op: Op, x: u32, y: u32) -> Result<u32, Refused> {
@@ -50,11 +51,11 @@ impl<G: Algebra + Drop, M: Memo + Drop> Desk<G, M> {
             &self.algebra,
             &mut self.memo,
             &mut self.rows,
-            op.number(),
+            u8::from(op),
             x,
             y,
         );
-        told.map_err(Refused)
+        told.map_err(Refused::Table)
     }
 
     pub(crate) fn check(&mut self, x: u32, y: u32) -> Result<Checked, Refused> {
@@ -66,11 +67,11 @@ impl<G: Algebra + Drop, M: Memo + Drop> Desk<G, M> {
             x,
             y,
         );
-        told.map_err(Refused)
+        told.map_err(Refused::Table)
     }
 
     // Lays a netlist, whose lines' handles go into a list.
-    pub(crate) fn lay(&mut self, lines: &[Line], handles: &mut [u32]) -> anyhow::Result<()> {
+    pub(crate) fn lay(&mut self, lines: &[Line], handles: &mut [u32]) -> Result<(), Refused> {
         let told = lay(
             &mut self.table,
             &self.algebra,
@@ -79,7 +80,7 @@ impl<G: Algebra + Drop, M: Memo + Drop> Desk<G, M> {
             lines,
             handles,
         );
-        told.map_err(|fault| anyhow!("refused {}", fault.number()))
+        told.map_err(Refused::Lay)
     }
 
     // IF `when` THEN `then` ELSE `other`, by two gates of IFAND under an IFOR.
@@ -90,12 +91,3 @@ impl<G: Algebra + Drop, M: Memo + Drop> Desk<G, M> {
         self.join(Op::IfOr, yes, no)
     }
 }
-
-// In place of Row::default().
-pub(crate) const BLANK: Row = Row {
-    input: 0,
-    low: 0,
-    high: 0,
-    low_other: 0,
-    high_other: 0,
-};

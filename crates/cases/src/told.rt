@@ -1,15 +1,36 @@
+use comparison::{CompareFault, LayFault, ReplayFault};
 use diagram::TableFault;
-use netlist::Finding;
+use netlist::{ComparisonFault, EvaluationFault, Finding};
 use std::error::Error;
 use std::fmt;
 
-// A call that was refused.
+// Why a call was refused.
 #[derive(Clone, Copy, Debug)]
-pub struct Refused(pub TableFault);
+pub enum Refused {
+    Table(TableFault),
+    Lay(LayFault),
+    Compare(CompareFault),
+    Replay(ReplayFault),
+    Evaluate(EvaluationFault),
+    CompareByPatterns(ComparisonFault),
+}
+
+impl Refused {
+    fn number(self) -> u8 {
+        match self {
+            Refused::Table(fault) => fault.number(),
+            Refused::Lay(fault) => fault.number(),
+            Refused::Compare(fault) => fault.number(),
+            Refused::Replay(fault) => fault.number(),
+            Refused::Evaluate(fault) => fault.number(),
+            Refused::CompareByPatterns(fault) => fault.number(),
+        }
+    }
+}
 
 impl fmt::Display for Refused {
     fn fmt<W: fmt::Write>(&self, f: &mut fmt::Formatter<W>) -> fmt::Result {
-        write!(f, "refused {}", self.0.number())
+        write!(f, "refused {}", self.number())
     }
 }
 

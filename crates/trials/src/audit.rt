@@ -1,310 +1,232 @@
-// Holding what lay and compare were told to the evaluator's signals, line by line and pair by pair.
-use crate::book::{Answer, Book};
-use crate::signals::{Signals, joined, same_finding};
-use algebra::Algebra;
-use comparison::{Checked, CompareFault, LayFault};
-use diagram::Table;
-use evaluation::compare_by_patterns;
-use netlist::{Finding, Line, count_outs, fault_of};
+// Holding what calls on a table were told to the evaluator's signals.
+use crate::book::Book;
+use crate::parts::missing_parts;
+use crate::record::Record;
+use crate::signals::{Signal, joined, patterns, signals_of, turned};
+use algebra::{Algebra, Op};
+use comparison::LineReason;
+use diagram::{Table, TableFault};
+use netlist::{Line, Pattern};
 use std::alloc::{AllocError, Global};
 
-pub(crate) const FEW_ROWS: u8 = 22;
+// The least handle that is no constant.
+const FIRST_PLACE: u32 = 16;
 
-const SHORT_LIST: u8 = 27;
+// What a call, a line or a pair was told.
+pub(crate) type Answer = Result<u32, LineReason>;
 
-const OUT_COUNTS: u8 = 42;
+// Why a call has no signal to answer.
+#[derive(Drop)]
+pub(crate) enum NoSignal {
+    Refused(TableFault),
+    Memory(AllocError),
+}
 
-const FEW_FINDINGS: u8 = 43;
+impl From<AllocError> for NoSignal {
+    fn from(fault: AllocError) -> NoSignal {
+        NoSignal::Memory(fault)
+    }
+}
 
-pub(crate) const GRADE: u8 = 9;
+impl From<TableFault> for NoSignal {
+    fn from(fault: TableFault) -> NoSignal {
+        NoSignal::Refused(fault)
+    }
+}
 
-const OUT: u8 = 8;
-
-// No call answers this handle.
-pub(crate) const NOTHING: u32 = u32::MAX;
-
-const NO_HANDLES: [u32; 0] = [];
-
-// The line or the pair that was refused, and the number of the refusal.
+// What a table was made with: its inputs and places, and work rows.
 #[derive(Clone, Copy)]
-pub(crate) struct Refusal {
-    at: usize,
-    number: u8,
+pub(crate) struct Setting {
+    pub inputs: u8,
+    pub room: usize,
+    pub rows: usize,
 }
 
-// How far a lay or a compare came.
+impl Setting {
+    // With as many work rows as calls take.
+    pub(crate) fn enough(inputs: u8, room: usize) -> Setting {
+        Setting {
+            inputs,
+            room,
+            rows: usize::from(inputs) + 1,
+        }
+    }
+}
+
+// Whether the calls on a table were told right and the places in use are, and how many are to be in use.
 #[derive(Clone, Copy)]
-pub(crate) enum End {
-    Whole,
-    // it was refused before its first line
-    Before(u8),
-    First(Refusal),
-    Second(Refusal),
-    Pair(Refusal),
+pub(crate) struct Outcome {
+    pub right: bool,
+    pub places: usize,
 }
 
-// Two netlists that were compared, with the signals of their lines.
-#[derive(Clone, Copy)]
-struct Both<'a, 's> {
-    first: &'a [Line],
-    second: &'a [Line],
-    left: &'s Signals,
-    right: &'s Signals,
+// The audit of the calls on one table, in their order.
+#[derive(Drop)]
+pub(crate) struct Audit<'a, G> {
+    pub record: &'a mut Record,
+    pub table: &'a Table,
+    pub algebra: &'a G,
+    pub heap: Global,
+    pub setting: Setting,
+    patterns: Vec<Pattern>,
+    book: Book,
 }
 
-fn lay_end(told: Result<(), LayFault>) -> End {
-    let Err(fault) = told else {
-        return End::Whole;
-    };
-    let number = fault.number();
-    match fault.line() {
-        Some(at) => End::First(Refusal { at, number }),
-        None => End::Before(number),
-    }
-}
-
-fn compare_end(told: Result<usize, CompareFault>) -> End {
-    let Err(fault) = told else {
-        return End::Whole;
-    };
-    let number = fault.number();
-    match fault {
-        CompareFault::First(inner) => lay_end(Err(inner)),
-        CompareFault::Second(inner) => match inner.line() {
-            Some(at) => End::Second(Refusal { at, number }),
-            None => End::Before(number),
-        },
-        CompareFault::Pair(refusal) => End::Pair(Refusal {
-            at: refusal.pair,
-            number,
-        }),
-        _ => End::Before(number),
-    }
-}
-
-// The refusal of a lay before its first line, if one is due.
-fn lay_refusal(inputs: u8, rows: usize, lines: usize, handles: usize) -> Option<u8> {
-    if handles < lines {
-        Some(SHORT_LIST)
-    } else if rows <= inputs as usize {
-        Some(FEW_ROWS)
-    } else {
-        None
-    }
-}
-
-// The refusal of a compare before its first line, if one is due.
-fn compare_refusal(
-    inputs: u8,
-    rows: usize,
-    first: &[Line],
-    second: &[Line],
-    handles: usize,
-    found: usize,
-) -> Option<u8> {
-    if handles.saturating_sub(first.len()) < second.len() || handles < first.len() {
-        Some(SHORT_LIST)
-    } else if found < count_outs(first) {
-        Some(FEW_FINDINGS)
-    } else if count_outs(first) != count_outs(second) {
-        Some(OUT_COUNTS)
-    } else if rows <= inputs as usize {
-        Some(FEW_ROWS)
-    } else {
-        None
-    }
-}
-
-// What the line or the pair of this number was told.
-fn answer_at(refused: Option<Refusal>, at: usize, handle: Option<u32>) -> Answer {
-    match refused {
-        Some(refusal) if refusal.at == at => Err(refusal.number),
-        _ => Ok(handle.unwrap_or(NOTHING)),
-    }
-}
-
-// Whether the lines up to a refused one, or all, have the handles that they are to have.
-fn audit_lines<G: Algebra>(
-    book: &mut Book,
-    table: &Table,
-    algebra: &G,
-    lines: &[Line],
-    signals: &Signals,
-    handles: &[u32],
-    refused: Option<Refusal>,
-) -> Result<bool, AllocError> {
-    for (number, line) in lines.iter().enumerate() {
-        book.record.lines = book.record.lines.wrapping_add(1);
-        let answer = answer_at(refused, number, handles.get(number).copied());
-        let right = match fault_of(algebra, book.inputs, number, *line) {
-            Some(fault) => book.refused(fault.number(), answer),
-            None => book.step(table, algebra, signals.line(number), answer)?,
-        };
-        if !right {
-            return Ok(false);
-        }
-        if answer.is_err() {
-            return Ok(true);
-        }
-    }
-    Ok(refused.is_none())
-}
-
-// Whether a lay was told right.
-pub(crate) fn audit_lay<G: Algebra>(
-    book: &mut Book,
-    table: &Table,
-    algebra: &G,
-    rows: usize,
-    lines: &[Line],
-    handles: &[u32],
-    told: Result<(), LayFault>,
-) -> Result<bool, AllocError> {
-    let due = lay_refusal(book.inputs, rows, lines.len(), handles.len());
-    let refused = match (due, lay_end(told)) {
-        (Some(number), End::Before(told)) => {
-            book.record.refuse(told);
-            return Ok(number == told);
-        }
-        (None, End::Whole) => None,
-        (None, End::First(refusal)) => Some(refusal),
-        _ => return Ok(false),
-    };
-    let signals = Signals::of(book.heap, algebra, book.inputs, lines)?;
-    audit_lines(book, table, algebra, lines, &signals, handles, refused)
-}
-
-// The numbers of the OUT lines.
-fn out_numbers(heap: Global, lines: &[Line]) -> Result<Vec<usize>, AllocError> {
-    let mut numbers = Vec::new(heap);
-    for (number, line) in lines.iter().enumerate() {
-        if line.kind == OUT {
-            numbers.push(number)?;
-        }
-    }
-    Ok(numbers)
-}
-
-// The findings of two netlists whose lines were all accepted, by trying every pattern.
-fn tried<G: Algebra>(
-    book: &Book,
-    algebra: &G,
-    both: &Both<'_, '_>,
-) -> Result<Vec<Finding>, AllocError> {
-    let lines = both.first.len().wrapping_add(both.second.len());
-    let mut values = vec![in book.heap; 0u8; lines]?;
-    let mut found = vec![in book.heap; Finding::Clean; count_outs(both.first)]?;
-    let _ = compare_by_patterns(
-        algebra,
-        book.inputs,
-        both.first,
-        both.second,
-        &mut values,
-        &mut found,
-    );
-    Ok(found)
-}
-
-// Whether the pairs up to a refused one, or all, have the handles and the findings that they are to have.
-fn audit_pairs<G: Algebra>(
-    book: &mut Book,
-    table: &Table,
-    algebra: &G,
-    both: &Both<'_, '_>,
-    found: &[Checked],
-    refused: Option<Refusal>,
-) -> Result<bool, AllocError> {
-    let tried = tried(book, algebra, both)?;
-    let lefts = out_numbers(book.heap, both.first)?;
-    let rights = out_numbers(book.heap, both.second)?;
-    let outs = lefts.iter().zip(rights.iter());
-    for (pair, ((x, y), (row, finding))) in outs.zip(found.iter().zip(tried.iter())).enumerate() {
-        book.record.pairs = book.record.pairs.wrapping_add(1);
-        let grades = joined(
-            book.heap,
+impl<'a, G: Algebra> Audit<'a, G> {
+    pub(crate) fn new(
+        record: &'a mut Record,
+        table: &'a Table,
+        algebra: &'a G,
+        heap: Global,
+        setting: Setting,
+    ) -> Result<Audit<'a, G>, AllocError> {
+        let patterns = patterns(heap, setting.inputs)?;
+        record.tables.add(1);
+        record.patterns.add(patterns.len());
+        Ok(Audit {
+            record,
+            table,
             algebra,
-            GRADE,
-            both.left.line(*x),
-            both.right.line(*y),
-        )?;
-        let answer = answer_at(refused, pair, Some(row.handle));
-        if !book.step(table, algebra, &grades, answer)? {
-            return Ok(false);
-        }
-        if answer.is_err() {
-            return Ok(true);
-        }
-        book.record.findings = book.record.findings.wrapping_add(1);
-        if !same_finding(row.finding, *finding) {
-            return Ok(false);
-        }
+            heap,
+            setting,
+            patterns,
+            book: Book::new(heap),
+        })
     }
-    Ok(refused.is_none())
-}
 
-// Whether the lines and the pairs of a compare were told right.
-fn audit_both<G: Algebra>(
-    book: &mut Book,
-    table: &Table,
-    algebra: &G,
-    both: &Both<'_, '_>,
-    handles: &[u32],
-    found: &[Checked],
-    end: End,
-) -> Result<bool, AllocError> {
-    let (first, second, pair) = match end {
-        End::Whole => (None, None, None),
-        End::Before(_) => return Ok(false),
-        End::First(refusal) => (Some(refusal), None, None),
-        End::Second(refusal) => (None, Some(refusal), None),
-        End::Pair(refusal) => (None, None, Some(refusal)),
-    };
-    if !audit_lines(book, table, algebra, both.first, both.left, handles, first)? {
-        return Ok(false);
-    }
-    if first.is_some() {
-        return Ok(true);
-    }
-    let rest = handles.get(both.first.len()..).unwrap_or(&NO_HANDLES);
-    if !audit_lines(book, table, algebra, both.second, both.right, rest, second)? {
-        return Ok(false);
-    }
-    if second.is_some() {
-        return Ok(true);
-    }
-    audit_pairs(book, table, algebra, both, found, pair)
-}
-
-// Whether a compare was told right.
-pub(crate) fn audit_compare<'a, G: Algebra>(
-    book: &mut Book,
-    table: &Table,
-    algebra: &G,
-    rows: usize,
-    first: &'a [Line],
-    second: &'a [Line],
-    handles: &[u32],
-    found: &[Checked],
-    told: Result<usize, CompareFault>,
-) -> Result<bool, AllocError> {
-    let end = compare_end(told);
-    let due = compare_refusal(book.inputs, rows, first, second, handles.len(), found.len());
-    if let Some(number) = due {
-        book.record.refuse(number);
-        return Ok(matches!(end, End::Before(told) if told == number));
-    }
-    if let Ok(pairs) = told {
-        if pairs != count_outs(first) {
-            return Ok(false);
+    // What the audit comes to at its end, where all calls were told right or some was not.
+    pub(crate) fn outcome(&self, right: bool) -> Outcome {
+        let places = self.book.places();
+        Outcome {
+            right: right && self.table.used() == places,
+            places,
         }
     }
-    let left = Signals::of(book.heap, algebra, book.inputs, first)?;
-    let right = Signals::of(book.heap, algebra, book.inputs, second)?;
-    let both = Both {
-        first,
-        second,
-        left: &left,
-        right: &right,
-    };
-    audit_both(book, table, algebra, &both, handles, found, end)
+
+    // The signals of a netlist's lines, up to the first that is refused.
+    pub(crate) fn signals(&self, lines: &[Line]) -> Result<Vec<Signal>, AllocError> {
+        signals_of(
+            self.heap,
+            self.algebra,
+            self.setting.inputs,
+            &self.patterns,
+            lines,
+        )
+    }
+
+    pub(crate) fn joined(&self, op: Op, left: &[u8], right: &[u8]) -> Result<Signal, AllocError> {
+        joined(self.heap, self.algebra, op, left, right)
+    }
+
+    pub(crate) fn turned(&self, signal: &[u8]) -> Result<Signal, AllocError> {
+        turned(self.heap, self.algebra, signal)
+    }
+
+    // The signal of an input.
+    pub(crate) fn input(&self, input: u8) -> Result<Signal, NoSignal> {
+        if input >= self.setting.inputs {
+            return Err(NoSignal::Refused(TableFault::NoSuchInput));
+        }
+        let bits = self.patterns.iter().map(|pattern| pattern.bit(input));
+        Ok(bits.collect(self.heap)?)
+    }
+
+    // The signal of a value, refused as the fault says where there is no such value.
+    pub(crate) fn constant(&self, code: u32, refusal: TableFault) -> Result<Signal, NoSignal> {
+        match u8::try_from(code) {
+            Ok(code) if code < G::COUNT => { Ok(vec![in self.heap; code; self.patterns.len()]?) }
+            _ => Err(NoSignal::Refused(refusal)),
+        }
+    }
+
+    // What the table says of a handle that no call answered.
+    fn told(&self, handle: u32) -> Result<Signal, NoSignal> {
+        self.patterns
+            .iter()
+            .map(|pattern| -> Result<u8, NoSignal> {
+                Ok(self.table.value(self.algebra, handle, *pattern)?)
+            })
+            .try_collect(self.heap)
+    }
+
+    // Whether NOT of a signal has the handle with the other mark: all its values are settled, and NOT changes one.
+    fn has_mark(&self, signal: &[u8]) -> bool {
+        signal.iter().all(|value| self.algebra.is_settled(*value))
+            && signal
+                .iter()
+                .any(|value| self.algebra.turn(*value) != *value)
+    }
+
+    // The signal of a handle that a call was given. One that was not booked is a constant, the NOT of one that was booked,
+    // or what the table says of it.
+    pub(crate) fn given(&self, handle: u32) -> Result<Signal, NoSignal> {
+        if let Some(signal) = self.book.signal(handle) {
+            return Ok(signal.clone()?);
+        }
+        if handle < FIRST_PLACE {
+            return self.constant(handle, TableFault::NoSuchHandle);
+        }
+        if ((handle - FIRST_PLACE) / 2) as usize >= self.book.places() {
+            return Err(NoSignal::Refused(TableFault::NoSuchHandle));
+        }
+        match self.book.signal(handle ^ 1) {
+            Some(signal) if self.has_mark(signal) => Ok(self.turned(signal)?),
+            Some(_) => Err(NoSignal::Refused(TableFault::NoSuchHandle)),
+            None => self.told(handle),
+        }
+    }
+
+    // Whether a handle has the values of a signal on all patterns.
+    fn has_values(&self, handle: u32, signal: &[u8]) -> bool {
+        let mut both = self.patterns.iter().zip(signal.iter());
+        signal.len() == self.patterns.len()
+            && both.all(|(pattern, value)| {
+                self.table.value(self.algebra, handle, *pattern) == Ok(*value)
+            })
+    }
+
+    // Whether an answer is the refusal that is due.
+    pub(crate) fn is_refused(
+        &mut self,
+        due: LineReason,
+        answer: Answer,
+    ) -> Result<bool, AllocError> {
+        if let Err(told) = answer {
+            self.record.refuse(told.number())?;
+        }
+        Ok(answer == Err(due))
+    }
+
+    // Whether an answer is right where a call has this signal, and no refusal is due but that the table is full: it is full
+    // exactly if there are more parts than places, the handle has the signal's values on all patterns, and one signal has
+    // one handle.
+    pub(crate) fn is_answered(
+        &mut self,
+        signal: Signal,
+        answer: Answer,
+    ) -> Result<bool, AllocError> {
+        let parts = missing_parts(self.heap, self.algebra, self.book.parts(), &signal)?;
+        if self.book.places().saturating_add(parts.len()) > self.setting.room {
+            return self.is_refused(LineReason::Table(TableFault::Full), answer);
+        }
+        let Ok(handle) = answer else {
+            return Ok(false);
+        };
+        self.record.values.add(signal.len());
+        let same = self.has_values(handle, &signal);
+        Ok(self.book.enter(handle, signal, parts)? && same)
+    }
+
+    // Whether an answer is right where a call is to answer this, or is due this refusal.
+    pub(crate) fn is_wanted(
+        &mut self,
+        wanted: Result<Signal, NoSignal>,
+        answer: Answer,
+    ) -> Result<bool, AllocError> {
+        match wanted {
+            Ok(signal) => self.is_answered(signal, answer),
+            Err(NoSignal::Refused(fault)) => self.is_refused(LineReason::Table(fault), answer),
+            Err(NoSignal::Memory(fault)) => Err(fault),
+        }
+    }
 }

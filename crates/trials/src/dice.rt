@@ -29,7 +29,7 @@ impl Dice {
         if count == 0 {
             return 0;
         }
-        (self.roll() % count as u64) as u32
+        (self.roll() % u64::from(count)) as u32
     }
 
     // Whether one roll in so many comes out.

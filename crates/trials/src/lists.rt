@@ -1,56 +1,42 @@
 // Trials of lists of calls. A list grows in rounds, by calls with handles that the earlier ones answered, and is replayed
 // from its start in each.
-use crate::audit::NOTHING;
-use crate::book::Book;
-use crate::calls::{Replayed, audit_calls};
-use crate::choosing::{Choice, add_calls};
-use crate::dice::Dice;
-use crate::making::{Frame, any_netlist, spoil};
-use crate::netlists::{FRAME, UNCHECKED, any_room, any_second, frame_of};
-use crate::printing::{print_calls, print_lines};
+use crate::audit::{Outcome, Setting};
+use crate::calls::Replayed;
+use crate::choosing::Chooser;
+use crate::making::count_of;
+use crate::printing::{Calls, Netlist};
+use crate::trial::{Trial, UNANSWERED, UNCHECKED};
 use algebra::Algebra;
-use comparison::{Call, Checked, Told, replay_apart};
-use diagram::{Memo, Row, Table};
+use comparison::{Call, Checked, ReplayFault, Told, replay_apart};
+use diagram::{Memo, Row, Table, TableFault};
 use netlist::Line;
 use std::alloc::{AllocError, Global};
+use std::fmt;
 
 const ROUNDS: u32 = 5;
 
-const UNTOLD: Told = Told::Handle(Ok(NOTHING));
+const UNTOLD: Told = Told::Handle(Ok(UNANSWERED));
 
+// The most inputs that a table can have.
 const MOST_INPUTS: u8 = 60;
 
-const SHORT_LIST: u8 = 27;
-
-const TOO_MANY_INPUTS: u8 = 21;
-
-// What a list of calls is made with: inputs, work rows, and entries for handles and findings.
+// What a list of calls is made with, and how many entries for handles and findings it is lent.
 #[derive(Clone, Copy)]
 struct Plan {
-    inputs: u8,
-    room: usize,
-    rows: usize,
+    setting: Setting,
     handles: usize,
     found: usize,
 }
 
-// Mostly there is enough of everything.
-fn any_plan(dice: &mut Dice) -> Plan {
-    let inputs = dice.below(6);
-    let needed = inputs.wrapping_add(1);
-    let rows = if dice.one_in(10) {
-        dice.below(needed)
-    } else {
-        needed
-    };
-    let handles = if dice.one_in(6) { dice.below(60) } else { 2000 };
-    let found = if dice.one_in(6) { dice.below(12) } else { 500 };
-    Plan {
-        inputs: u8::try_from(inputs).unwrap_or(0),
-        room: any_room(dice),
-        rows: rows as usize,
-        handles: handles as usize,
-        found: found as usize,
+impl fmt::Display for Plan {
+    fn fmt<W: fmt::Write>(&self, f: &mut fmt::Formatter<W>) -> fmt::Result {
+        let Setting { inputs, room, rows } = self.setting;
+        let handles = self.handles;
+        let found = self.found;
+        write!(
+            f,
+            "{inputs} inputs, {room} places, {rows} work rows, {handles} handles, {found} findings"
+        )
     }
 }
 
@@ -63,119 +49,27 @@ struct Lent {
     told: Vec<Told>,
 }
 
-fn lend(heap: Global, plan: Plan, told: usize) -> Result<Lent, AllocError> {
-    Ok(Lent {
-        rows: vec![in heap; FRAME; plan.rows]?,
-        handles: vec![in heap; NOTHING; plan.handles]?,
-        found: vec![in heap; UNCHECKED; plan.found]?,
-        told: vec![in heap; UNTOLD; told]?,
-    })
-}
-
-// The handles that a replay answered.
-fn answered(heap: Global, lent: &Lent) -> Result<Vec<u32>, AllocError> {
-    let mut answered = Vec::new(heap);
-    for told in lent.told.iter() {
-        match *told {
-            Told::Handle(Ok(handle)) => answered.push(handle)?,
-            Told::Check(Ok(checked)) => answered.push(checked.handle)?,
-            _ => {}
-        }
+impl Lent {
+    fn new(heap: Global, plan: Plan, told: usize) -> Result<Lent, AllocError> {
+        Ok(Lent {
+            rows: vec![in heap; Row::default(); plan.setting.rows]?,
+            handles: vec![in heap; UNANSWERED; plan.handles]?,
+            found: vec![in heap; UNCHECKED; plan.found]?,
+            told: vec![in heap; UNTOLD; told]?,
+        })
     }
-    for handle in lent.handles.iter() {
-        if *handle != NOTHING {
-            answered.push(*handle)?;
-        }
+
+    // The handles that a replay answered.
+    fn answered(&self, heap: Global) -> Result<Vec<u32>, AllocError> {
+        let told = self.told.iter().filter_map(|told| match *told {
+            Told::Handle(Ok(handle)) => Some(handle),
+            Told::Check(Ok(checked)) => Some(checked.handle),
+            _ => None,
+        });
+        let laid = self.handles.iter().copied();
+        told.chain(laid.filter(|handle| *handle != UNANSWERED))
+            .collect(heap)
     }
-    Ok(answered)
-}
-
-// Replays a list, and answers what it wrote and whether all of it is right.
-fn try_calls<'a, G: Algebra, M: Memo>(
-    book: &mut Book,
-    algebra: &G,
-    memo: &mut M,
-    plan: Plan,
-    lines: &'a [Line],
-    calls: &'a [Call],
-) -> Result<(Lent, bool), AllocError> {
-    let mut table = Table::new(book.heap, plan.room)?;
-    let mut lent = lend(book.heap, plan, calls.len())?;
-    let replayed = replay_apart(
-        &mut table,
-        algebra,
-        memo,
-        &mut lent.rows,
-        plan.inputs,
-        lines,
-        calls,
-        &mut lent.handles,
-        &mut lent.found,
-        &mut lent.told,
-    );
-    if replayed.is_err() {
-        return Ok((lent, false));
-    }
-    book.begin(plan.inputs, plan.room);
-    let right = audit_calls(
-        book,
-        &table,
-        algebra,
-        Replayed {
-            rows: plan.rows,
-            lines,
-            calls,
-            told: &lent.told,
-            handles: &lent.handles,
-            found: &lent.found,
-        },
-    )?;
-    Ok((lent, right))
-}
-
-// The number by which a list is refused that has too many inputs and so many entries for what is told.
-fn refusal<G: Algebra, M: Memo>(
-    book: &mut Book,
-    algebra: &G,
-    memo: &mut M,
-    plan: Plan,
-    calls: &[Call],
-    told: usize,
-) -> Result<u8, AllocError> {
-    let mut table = Table::new(book.heap, plan.room)?;
-    let mut lent = lend(book.heap, plan, told)?;
-    let replayed = replay_apart(
-        &mut table,
-        algebra,
-        memo,
-        &mut lent.rows,
-        MOST_INPUTS + 1,
-        &[],
-        calls,
-        &mut lent.handles,
-        &mut lent.found,
-        &mut lent.told,
-    );
-    let number = match replayed {
-        Ok(()) => 0,
-        Err(fault) => fault.number(),
-    };
-    book.record.refuse(number);
-    Ok(number)
-}
-
-// Whether a list of calls is refused for an entry too few for what is told, and then for too many inputs.
-fn try_refused<G: Algebra, M: Memo>(
-    book: &mut Book,
-    algebra: &G,
-    memo: &mut M,
-    plan: Plan,
-    calls: &[Call],
-) -> Result<bool, AllocError> {
-    let few = calls.len().saturating_sub(1);
-    let short = refusal(book, algebra, memo, plan, calls, few)?;
-    let wide = refusal(book, algebra, memo, plan, calls, calls.len())?;
-    Ok(short == SHORT_LIST && wide == TOO_MANY_INPUTS)
 }
 
 // Two netlists in one list, the second one from `middle` on.
@@ -185,97 +79,186 @@ struct Netlists {
     middle: u32,
 }
 
-fn any_netlists(dice: &mut Dice, heap: Global, frame: Frame) -> Result<Netlists, AllocError> {
-    let middle = dice.below(12).wrapping_add(1);
-    let mut lines = any_netlist(dice, heap, frame, middle)?;
-    let mut second = any_second(dice, heap, frame, &lines)?;
-    if dice.one_in(4) {
-        spoil(dice, frame, &mut second);
-    }
-    lines.extend_from_slice(&second)?;
-    Ok(Netlists { lines, middle })
-}
-
-// Grows a list of calls, and replays it in each round. Whether all comes out right.
-fn try_rounds<G: Algebra, M: Memo>(
-    book: &mut Book,
-    dice: &mut Dice,
-    algebra: &G,
-    memo: &mut M,
-    plan: Plan,
-    netlists: &Netlists,
-    calls: &mut Vec<Call>,
-) -> Result<bool, AllocError> {
-    let mut handles = Vec::new(book.heap);
-    let mut right = true;
-    for _ in 0..ROUNDS {
-        let choice = Choice {
-            frame: frame_of(algebra, plan.inputs),
-            handles: &handles,
-            middle: netlists.middle,
-            end: u32::try_from(netlists.lines.len()).unwrap_or(0),
+impl<'a, G: Algebra, M: Memo> Trial<'a, G, M> {
+    // Mostly there is enough of everything.
+    fn any_plan(&mut self) -> Plan {
+        let inputs = self.dice.below(6);
+        let needed = inputs + 1;
+        let rows = if self.dice.one_in(10) {
+            self.dice.below(needed)
+        } else {
+            needed
         };
-        add_calls(dice, choice, calls)?;
-        let (lent, same) = try_calls(book, algebra, memo, plan, &netlists.lines, calls)?;
-        right = right && same;
-        handles = answered(book.heap, &lent)?;
+        let handles = if self.dice.one_in(6) {
+            self.dice.below(60)
+        } else {
+            2000
+        };
+        let found = if self.dice.one_in(6) {
+            self.dice.below(12)
+        } else {
+            500
+        };
+        Plan {
+            setting: Setting {
+                inputs: inputs as u8,
+                room: self.any_room(),
+                rows: rows as usize,
+            },
+            handles: handles as usize,
+            found: found as usize,
+        }
     }
-    Ok(right)
-}
 
-// Replays a list on a table of as many places as were in use, and on one of a place less. Whether all comes out right.
-fn try_rooms<'a, G: Algebra, M: Memo>(
-    book: &mut Book,
-    algebra: &G,
-    memo: &mut M,
-    plan: Plan,
-    lines: &'a [Line],
-    calls: &'a [Call],
-) -> Result<bool, AllocError> {
-    let mut plan = plan;
-    let mut right = true;
-    let places = book.places();
-    for room in [places, places.saturating_sub(1)] {
-        plan.room = room;
-        let (_, same) = try_calls(book, algebra, memo, plan, lines, calls)?;
-        right = right && same;
+    fn any_lines(&mut self, inputs: u8) -> Result<Netlists, AllocError> {
+        let mut maker = self.maker(inputs);
+        let (mut lines, mut second) = maker.any_two(12)?;
+        maker.spoil_one_in(4, &mut second);
+        let middle = count_of(&lines);
+        lines.extend_from_slice(&second)?;
+        Ok(Netlists { lines, middle })
     }
-    Ok(right)
-}
 
-// Makes a list of calls, and replays it as it grows, on smaller tables, and where it is refused as a whole.
-pub(crate) fn try_list<G: Algebra, M: Memo>(
-    rt: &HostRuntime,
-    book: &mut Book,
-    dice: &mut Dice,
-    algebra: &G,
-    memo: &mut M,
-) -> anyhow::Result<()> {
-    let plan = any_plan(dice);
-    let netlists = any_netlists(dice, book.heap, frame_of(algebra, plan.inputs))?;
-    let lines = netlists.lines.as_slice();
-    let mut calls = Vec::new(book.heap);
-    book.record.lists = book.record.lists.wrapping_add(1);
-    let grown = try_rounds(book, dice, algebra, memo, plan, &netlists, &mut calls)?;
-    let fitted = try_rooms(book, algebra, memo, plan, lines, &calls)?;
-    let refused = try_refused(book, algebra, memo, plan, &calls)?;
-    if !grown || !fitted || !refused {
-        book.record.different = book.record.different.wrapping_add(1);
-        println!(rt; "right as it grew: {grown}, on smaller tables: {fitted}, refused: {refused}")?;
-        print_list(rt, plan, lines, &calls)?;
+    // Replays a list on a table.
+    fn replay(
+        &mut self,
+        table: &mut Table,
+        inputs: u8,
+        lines: &[Line],
+        calls: &[Call],
+        lent: &mut Lent,
+    ) -> Result<(), ReplayFault> {
+        replay_apart(
+            table,
+            self.algebra,
+            self.memo,
+            &mut lent.rows,
+            inputs,
+            lines,
+            calls,
+            &mut lent.handles,
+            &mut lent.found,
+            &mut lent.told,
+        )
     }
-    Ok(())
-}
 
-fn print_list(rt: &HostRuntime, plan: Plan, lines: &[Line], calls: &[Call]) -> anyhow::Result<()> {
-    let inputs = plan.inputs;
-    let room = plan.room;
-    let rows = plan.rows;
-    let handles = plan.handles;
-    let found = plan.found;
-    println!(rt;
-        "{inputs} inputs, {room} places, {rows} work rows, {handles} handles, {found} findings"
-    )?;
-    print_lines(rt, lines)?;
-    print_calls(rt, calls)
+    // Replays a list on a new table. What it wrote, and what the audit of it comes to.
+    fn try_calls(
+        &mut self,
+        plan: Plan,
+        lines: &[Line],
+        calls: &[Call],
+    ) -> Result<(Lent, Outcome), AllocError> {
+        let mut table = Table::new(self.heap, plan.setting.room)?;
+        let mut lent = Lent::new(self.heap, plan, calls.len())?;
+        let told = self.replay(&mut table, plan.setting.inputs, lines, calls, &mut lent);
+        let mut audit = self.audit(&table, plan.setting)?;
+        let right = audit.are_calls_right(Replayed {
+            lines,
+            calls,
+            told: &lent.told,
+            handles: &lent.handles,
+            found: &lent.found,
+        })?;
+        let outcome = audit.outcome(right && told.is_ok());
+        Ok((lent, outcome))
+    }
+
+    // Whether a list of calls is refused for too many inputs, with so many entries for what is told, as it is to be.
+    fn is_refused(
+        &mut self,
+        plan: Plan,
+        calls: &[Call],
+        told: usize,
+        due: ReplayFault,
+    ) -> Result<bool, AllocError> {
+        let mut table = Table::new(self.heap, plan.setting.room)?;
+        let mut lent = Lent::new(self.heap, plan, told)?;
+        let answer = self.replay(&mut table, MOST_INPUTS + 1, &[], calls, &mut lent);
+        if let Err(fault) = answer {
+            self.record.refuse(fault.number())?;
+        }
+        Ok(answer == Err(due))
+    }
+
+    // Whether a list of calls is refused for an entry too few for what is told, and then for too many inputs.
+    fn try_refused(&mut self, plan: Plan, calls: &[Call]) -> Result<bool, AllocError> {
+        let count = calls.len();
+        let wide = ReplayFault::Table(TableFault::TooManyInputs);
+        let short = self.is_refused(plan, calls, count.saturating_sub(1), ReplayFault::ShortList)?;
+        Ok(self.is_refused(plan, calls, count, wide)? && short)
+    }
+
+    // Grows a list of calls, and replays it in each round. What the last round comes to, right if all came out right.
+    fn try_rounds(
+        &mut self,
+        plan: Plan,
+        netlists: &Netlists,
+        calls: &mut Vec<Call>,
+    ) -> Result<Outcome, AllocError> {
+        let mut handles = Vec::new(self.heap);
+        let mut last = Outcome {
+            right: true,
+            places: 0,
+        };
+        for _ in 0..ROUNDS {
+            let mut chooser = Chooser {
+                maker: self.maker(plan.setting.inputs),
+                handles: &handles,
+                middle: netlists.middle,
+                end: count_of(&netlists.lines),
+            };
+            chooser.add_calls(calls)?;
+            let (lent, outcome) = self.try_calls(plan, &netlists.lines, calls)?;
+            last = Outcome {
+                right: last.right && outcome.right,
+                places: outcome.places,
+            };
+            handles = lent.answered(self.heap)?;
+        }
+        Ok(last)
+    }
+
+    // Replays a list on a table of as many places as were in use, and on one of a place less. Whether all comes out right.
+    fn try_rooms(
+        &mut self,
+        plan: Plan,
+        places: usize,
+        lines: &[Line],
+        calls: &[Call],
+    ) -> Result<bool, AllocError> {
+        let mut plan = plan;
+        let mut right = true;
+        for room in [places, places.saturating_sub(1)] {
+            plan.setting.room = room;
+            let (_, outcome) = self.try_calls(plan, lines, calls)?;
+            right = right && outcome.right;
+        }
+        Ok(right)
+    }
+
+    // Makes a list of calls, and replays it as it grows, on smaller tables, and where it is refused as a whole.
+    pub(crate) fn try_list(&mut self) -> anyhow::Result<()> {
+        let plan = self.any_plan();
+        let netlists = self.any_lines(plan.setting.inputs)?;
+        let lines = netlists.lines.as_slice();
+        let mut calls = Vec::new(self.heap);
+        self.record.lists.add(1);
+        let Outcome {
+            right: grown,
+            places,
+        } = self.try_rounds(plan, &netlists, &mut calls)?;
+        let fitted = self.try_rooms(plan, places, lines, &calls)?;
+        let refused = self.try_refused(plan, &calls)?;
+        if !grown || !fitted || !refused {
+            self.record.different.add(1);
+            println!(self.rt;
+                "right as it grew: {grown}, on smaller tables: {fitted}, refused: {refused}"
+            )?;
+            println!(self.rt; "{plan}")?;
+            println!(self.rt; "{}", Netlist(lines))?;
+            println!(self.rt; "{}", Calls(&calls))?;
+        }
+        Ok(())
+    }
 }

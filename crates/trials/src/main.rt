@@ -7,6 +7,7 @@ mod book;
 mod calls;
 mod choosing;
 mod dice;
+mod lines;
 mod lists;
 mod making;
 mod netlists;
@@ -14,13 +15,13 @@ mod parts;
 mod printing;
 mod record;
 mod signals;
+mod trial;
 
 use algebra::{Algebra, FiveValued, TwoValued};
-use book::Book;
 use diagram::{NoMemo, RowMemo};
 use dice::Dice;
-use lists::try_list;
-use netlists::try_netlists;
+use record::Record;
+use trial::Trial;
 
 const SEED: u64 = 20_240_229;
 
@@ -37,27 +38,28 @@ fn memo_bits(turn: u32) -> u8 {
 // Tries the netlists and the lists of one algebra, by turns with a memo of some rows and one that keeps none.
 fn try_algebra<G: Algebra>(
     rt: &HostRuntime,
-    book: &mut Book,
+    record: &mut Record,
     dice: &mut Dice,
     algebra: &G,
 ) -> anyhow::Result<()> {
     for turn in 0..NETLISTS {
         let mut memo = RowMemo::new(rt.alloc(), memo_bits(turn))?;
-        try_netlists(rt, book, dice, algebra, &mut memo)?;
-        try_netlists(rt, book, dice, algebra, &mut NoMemo)?;
+        Trial::new(rt, record, dice, algebra, &mut memo).try_netlists()?;
+        Trial::new(rt, record, dice, algebra, &mut NoMemo).try_netlists()?;
     }
     for turn in 0..LISTS {
         let mut memo = RowMemo::new(rt.alloc(), memo_bits(turn))?;
-        try_list(rt, book, dice, algebra, &mut memo)?;
-        try_list(rt, book, dice, algebra, &mut NoMemo)?;
+        Trial::new(rt, record, dice, algebra, &mut memo).try_list()?;
+        Trial::new(rt, record, dice, algebra, &mut NoMemo).try_list()?;
     }
     Ok(())
 }
 
 fn main(rt: HostRuntime) -> anyhow::Result<()> {
-    let mut book = Book::new(rt.alloc());
+    let mut record = Record::new(rt.alloc());
     let mut dice = Dice::new(SEED);
-    try_algebra(&rt, &mut book, &mut dice, &FiveValued)?;
-    try_algebra(&rt, &mut book, &mut dice, &TwoValued)?;
-    book.record.print(&rt)
+    try_algebra(&rt, &mut record, &mut dice, &FiveValued)?;
+    try_algebra(&rt, &mut record, &mut dice, &TwoValued)?;
+    println!(rt; "{record}")?;
+    Ok(())
 }

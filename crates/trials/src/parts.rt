@@ -1,126 +1,74 @@
-// Counting the different parts of signals, from their values on all patterns alone.
+// The different parts of signals, from their values on all patterns alone: a part is what is left of a signal with its
+// first bits fixed. Parts that are constant take no place.
+use crate::signals::{Signal, turned};
 use algebra::Algebra;
 use std::alloc::{AllocError, Global};
+use std::collections::HashSet;
 
-// The most inputs of a trial.
-pub(crate) const MOST_INPUTS: u8 = 10;
+// Parts, with all parts of each.
+pub(crate) type Parts = HashSet<Signal>;
 
-// Where the values of a part stand, and a number made from them.
-#[derive(Clone, Copy)]
-struct Part {
-    from: usize,
-    end: usize,
-    hash: u64,
-}
-
-// Different parts, with the values of each on the inputs that it does not ignore at its front.
+// The parts of a signal that are missing from those that are known.
 #[derive(Drop)]
-pub(crate) struct Parts {
-    values: Vec<u8>,
-    list: Vec<Part>,
+struct Missing<'a, G> {
+    heap: Global,
+    algebra: &'a G,
+    known: &'a Parts,
+    parts: Parts,
 }
 
-// The values of a block on the inputs from the first one that it depends on.
-fn shortened(block: &[u8]) -> &[u8] {
-    let mut rest = block;
-    for _ in 0..MOST_INPUTS {
-        let (low, high) = rest.split_at(rest.len() / 2);
-        if low != high {
-            return rest;
-        }
-        rest = low;
+impl<'a, G: Algebra> Missing<'a, G> {
+    // Whether a part is one with its NOT, and its NOT is kept for both.
+    fn is_turned(&self, part: &[u8]) -> bool {
+        let changed = part
+            .iter()
+            .find(|value| self.algebra.turn(**value) != **value);
+        part.iter().all(|value| self.algebra.is_settled(*value))
+            && changed.is_some_and(|value| self.algebra.turn(*value) < *value)
     }
-    rest
-}
 
-// Whether a block is one part with its NOT, and its NOT is kept for both.
-fn is_turned<G: Algebra>(algebra: &G, block: &[u8]) -> bool {
-    for value in block {
-        if !algebra.is_settled(*value) {
-            return false;
-        }
-    }
-    for value in block {
-        let turned = algebra.turn(*value);
-        if turned != *value {
-            return turned < *value;
-        }
-    }
-    false
-}
-
-impl Parts {
-    pub(crate) fn new(heap: Global) -> Parts {
-        Parts {
-            values: Vec::new(heap),
-            list: Vec::new(heap),
+    // The values that are kept for a part.
+    fn kept(&self, part: &[u8]) -> Result<Signal, AllocError> {
+        if self.is_turned(part) {
+            turned(self.heap, self.algebra, part)
+        } else {
+            part.to_vec(self.heap)
         }
     }
 
-    pub(crate) fn count(&self) -> usize {
-        self.list.len()
-    }
-
-    // Leaves the first `count` parts.
-    pub(crate) fn cut(&mut self, count: usize) {
-        self.list.truncate(count);
-        let end = match self.list.last() {
-            Some(part) => part.end,
-            None => 0,
-        };
-        self.values.truncate(end);
-    }
-
-    // Whether the values from a place on are those of a part.
-    fn has(&self, from: usize, hash: u64) -> bool {
-        let new = self.values.get(from..);
-        for part in self.list.iter() {
-            if part.hash == hash && self.values.get(part.from..part.end) == new {
-                return true;
-            }
-        }
-        false
-    }
-
-    // Adds what a block of values is part of, unless it is constant.
-    fn add_block<G: Algebra>(&mut self, algebra: &G, block: &[u8]) -> Result<(), AllocError> {
-        let part = shortened(block);
-        if part.len() < 2 {
+    // Adds the parts of a block of values: itself, if it depends on its first bit, and those of its halves.
+    fn add(&mut self, block: &[u8]) -> Result<(), AllocError> {
+        if block.len() < 2 {
             return Ok(());
         }
-        let turned = is_turned(algebra, part);
-        let from = self.values.len();
-        let mut hash = 0xcbf2_9ce4_8422_2325u64;
-        for value in part {
-            let kept = if turned { algebra.turn(*value) } else { *value };
-            hash = (hash ^ kept as u64).wrapping_mul(0x0000_0100_0000_01b3);
-            self.values.push(kept)?;
+        let (low, high) = block.split_at(block.len() / 2);
+        if low == high {
+            return self.add(low);
         }
-        if self.has(from, hash) {
-            self.values.truncate(from);
+        let part = self.kept(block)?;
+        if self.known.contains(&part) || self.parts.contains(&part) {
             return Ok(());
         }
-        let end = self.values.len();
-        self.list.push(Part { from, end, hash })?;
-        Ok(())
+        self.parts.insert(part)?;
+        self.add(low)?;
+        self.add(high)
     }
+}
 
-    // Adds every part of a signal: with its first k bits fixed, a block of its values.
-    pub(crate) fn add_signal<G: Algebra>(
-        &mut self,
-        algebra: &G,
-        signal: &[u8],
-    ) -> Result<(), AllocError> {
-        let mut size = signal.len();
-        for _ in 0..MOST_INPUTS {
-            if size < 2 {
-                return Ok(());
-            }
-            for block in signal.chunks_exact(size) {
-                self.add_block(algebra, block)?;
-            }
-            size /= 2;
-        }
-        Ok(())
-    }
+// The parts of a signal that are missing from those that are known.
+pub(crate) fn missing_parts<G: Algebra>(
+    heap: Global,
+    algebra: &G,
+    known: &Parts,
+    signal: &[u8],
+) -> Result<Parts, AllocError> {
+    let mut missing = Missing {
+        heap,
+        algebra,
+        known,
+        parts: HashSet::new(heap),
+    };
+    missing.add(signal)?;
+    let Missing { parts, .. } = missing;
+    Ok(parts)
 }

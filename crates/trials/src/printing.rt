@@ -1,47 +1,56 @@
 // Printing what came out otherwise than it is to.
 use comparison::Call;
 use netlist::Line;
+use std::fmt;
 
 // The lines of a netlist: a row of number, kind and operands for each.
-pub(crate) fn print_lines(rt: &HostRuntime, lines: &[Line]) -> anyhow::Result<()> {
-    println!(rt; "netlist:")?;
-    for (number, line) in lines.iter().enumerate() {
-        let kind = line.kind;
-        let first = line.first;
-        let second = line.second;
-        println!(rt; "{number:>5} kind {kind} {first} {second}")?;
-    }
-    Ok(())
-}
+#[derive(Clone, Copy)]
+pub(crate) struct Netlist<'a>(pub &'a [Line]);
 
-fn print_call(rt: &HostRuntime, call: Call) -> anyhow::Result<()> {
-    match call {
-        Call::Input(input) => println!(rt; "input {input}")?,
-        Call::Constant(code) => println!(rt; "constant {code}")?,
-        Call::Turn(x) => println!(rt; "turn {x}")?,
-        Call::Join(op, x, y) => println!(rt; "join {op} {x} {y}")?,
-        Call::Check(x, y) => println!(rt; "check {x} {y}")?,
-        Call::Lay(span) => {
-            let from = span.from;
-            let count = span.count;
-            println!(rt; "lay {count} lines from {from}")?
+impl<'a> fmt::Display for Netlist<'a> {
+    fn fmt<W: fmt::Write>(&self, f: &mut fmt::Formatter<W>) -> fmt::Result {
+        write!(f, "netlist:")?;
+        for (number, line) in self.0.iter().enumerate() {
+            let kind = line.kind;
+            let first = line.first;
+            let second = line.second;
+            write!(f, "\n{number:>5} kind {kind} {first} {second}")?;
         }
-        Call::Compare(a, b) => {
-            let first = a.from;
-            let second = b.from;
-            let lines = a.count;
-            let others = b.count;
-            println!(rt; "compare {lines} lines from {first} with {others} from {second}")?
-        }
+        Ok(())
     }
-    Ok(())
 }
 
 // The calls of a list, a row for each.
-pub(crate) fn print_calls(rt: &HostRuntime, calls: &[Call]) -> anyhow::Result<()> {
-    println!(rt; "calls:")?;
-    for call in calls {
-        print_call(rt, *call)?;
+#[derive(Clone, Copy)]
+pub(crate) struct Calls<'a>(pub &'a [Call]);
+
+impl<'a> fmt::Display for Calls<'a> {
+    fn fmt<W: fmt::Write>(&self, f: &mut fmt::Formatter<W>) -> fmt::Result {
+        write!(f, "calls:")?;
+        for call in self.0 {
+            write!(f, "\n{}", Row(*call))?;
+        }
+        Ok(())
     }
-    Ok(())
+}
+
+#[derive(Clone, Copy)]
+struct Row(Call);
+
+impl fmt::Display for Row {
+    fn fmt<W: fmt::Write>(&self, f: &mut fmt::Formatter<W>) -> fmt::Result {
+        match self.0 {
+            Call::Input(input) => write!(f, "input {input}"),
+            Call::Constant(code) => write!(f, "constant {code}"),
+            Call::Turn(x) => write!(f, "turn {x}"),
+            Call::Join(op, x, y) => write!(f, "join {op} {x} {y}"),
+            Call::Check(x, y) => write!(f, "check {x} {y}"),
+            Call::Lay(span) => write!(f, "lay {} lines from {}", span.count, span.from),
+            Call::Compare(a, b) => write!(
+                f,
+                "compare {} lines from {} with {} from {}",
+                a.count, a.from, b.count, b.from
+            ),
+        }
+    }
 }

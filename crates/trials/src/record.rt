@@ -1,75 +1,76 @@
 // What was tried, and how much of it came out otherwise.
+use std::alloc::{AllocError, Global};
+use std::collections::BTreeMap;
+use std::fmt;
 
-// Refusals have numbers below this one.
+// How often something was counted.
+#[derive(Clone, Copy, Default)]
+pub(crate) struct Count(u64);
 
-const NUMBERS: usize = 44;
+impl Count {
+    pub(crate) fn add(&mut self, more: usize) {
+        self.0 = self.0.saturating_add(more as u64);
+    }
+}
 
-#[derive(Clone, Copy)]
+impl fmt::Display for Count {
+    fn fmt<W: fmt::Write>(&self, f: &mut fmt::Formatter<W>) -> fmt::Result {
+        write!(f, "{}", self.0)
+    }
+}
+
+#[derive(Drop)]
 pub(crate) struct Record {
-    pub netlists: u64,
-    pub lists: u64,
-    pub tables: u64,
-    pub patterns: u64,
-    pub lines: u64,
-    pub pairs: u64,
-    pub calls: u64,
-    pub values: u64,
-    pub findings: u64,
-    pub different: u64,
-    refusals: [u64; NUMBERS],
+    pub netlists: Count,
+    pub lists: Count,
+    pub tables: Count,
+    pub patterns: Count,
+    pub lines: Count,
+    pub pairs: Count,
+    pub calls: Count,
+    pub values: Count,
+    pub findings: Count,
+    pub different: Count,
+    // how often each number was told as a refusal
+    refusals: BTreeMap<u8, Count>,
 }
 
 impl Record {
-    pub(crate) fn new() -> Record {
+    pub(crate) fn new(heap: Global) -> Record {
         Record {
-            netlists: 0,
-            lists: 0,
-            tables: 0,
-            patterns: 0,
-            lines: 0,
-            pairs: 0,
-            calls: 0,
-            values: 0,
-            findings: 0,
-            different: 0,
-            refusals: [0; NUMBERS],
+            netlists: Count::default(),
+            lists: Count::default(),
+            tables: Count::default(),
+            patterns: Count::default(),
+            lines: Count::default(),
+            pairs: Count::default(),
+            calls: Count::default(),
+            values: Count::default(),
+            findings: Count::default(),
+            different: Count::default(),
+            refusals: BTreeMap::new(heap),
         }
     }
 
-    // Counts a refusal.
-    pub(crate) fn refuse(&mut self, number: u8) {
-        if let Some(count) = self.refusals.get_mut(number as usize) {
-            *count = count.wrapping_add(1);
-        }
-    }
-
-    pub(crate) fn print(&self, rt: &HostRuntime) -> anyhow::Result<()> {
-        let netlists = self.netlists;
-        let lists = self.lists;
-        let lines = self.lines;
-        let pairs = self.pairs;
-        let calls = self.calls;
-        println!(rt; "pairs of netlists: {netlists}")?;
-        println!(rt; "lists of calls: {lists}, calls: {calls}")?;
-        println!(rt; "lines: {lines}, pairs of outputs: {pairs}")?;
-        self.print_checks(rt)
-    }
-
-    fn print_checks(&self, rt: &HostRuntime) -> anyhow::Result<()> {
-        let tables = self.tables;
-        let patterns = self.patterns;
-        let values = self.values;
-        let findings = self.findings;
-        let different = self.different;
-        println!(rt; "tables: {tables}, patterns: {patterns}")?;
-        println!(rt; "values held to the evaluator's: {values}")?;
-        println!(rt; "findings held to the evaluator's: {findings}")?;
-        for (number, count) in self.refusals.iter().enumerate() {
-            if *count > 0 {
-                println!(rt; "refused {number}: {count}")?;
-            }
-        }
-        println!(rt; "different: {different}")?;
+    // Counts a refusal by its number.
+    pub(crate) fn refuse(&mut self, number: u8) -> Result<(), AllocError> {
+        let count = self.refusals.entry(number)?.or_insert(Count::default());
+        count.add(1);
         Ok(())
+    }
+}
+
+impl fmt::Display for Record {
+    fn fmt<W: fmt::Write>(&self, f: &mut fmt::Formatter<W>) -> fmt::Result {
+        writeln!(f, "pairs of netlists: {}", self.netlists)?;
+        writeln!(f, "lists of calls: {}, calls: {}", self.lists, self.calls)?;
+        writeln!(f, "lines: {}, pairs of outputs: {}", self.lines, self.pairs)?;
+        writeln!(f, "tables: {}, patterns: {}", self.tables, self.patterns)?;
+        writeln!(f, "values held to the evaluator's: {}", self.values)?;
+        writeln!(f, "findings held to the evaluator's: {}", self.findings)?;
+        for (number, count) in &self.refusals {
+            writeln!(f, "refused {number}: {count}")?;
+        }
+        write!(f, "different: {}", self.different)
     }
 }

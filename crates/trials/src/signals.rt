@@ -1,84 +1,48 @@
 // Signals as lists of values: one for each pattern, in the order of the patterns.
-use algebra::Algebra;
+use algebra::{Algebra, Op};
 use evaluation::evaluate;
 use netlist::{Difference, Finding, Line, Pattern, check_lines};
 use std::alloc::{AllocError, Global};
 
-// The signal of a number that is no line's.
-const NONE: [u8; 0] = [];
+pub(crate) type Signal = Vec<u8>;
 
-// How many patterns there are.
-pub(crate) fn pattern_count(inputs: u8) -> usize {
-    1usize.checked_shl(inputs as u32).unwrap_or(0)
-}
-
-// The signals of a netlist's lines, up to the first that is refused.
-#[derive(Drop)]
-pub(crate) struct Signals {
-    patterns: usize,
-    values: Vec<u8>,
+// All patterns of so many inputs.
+pub(crate) fn patterns(heap: Global, inputs: u8) -> Result<Vec<Pattern>, AllocError> {
+    (0..u64::MAX)
+        .map_while(|number| Pattern::new(inputs, number).ok())
+        .collect(heap)
 }
 
 // The lines before the first that is refused.
 fn accepted<'a, G: Algebra>(algebra: &G, inputs: u8, lines: &'a [Line]) -> &'a [Line] {
     match check_lines(algebra, inputs, lines) {
         Ok(()) => lines,
-        Err(fault) => lines.get(0..fault.line).unwrap_or(lines),
+        Err(fault) => lines.get(..fault.line).unwrap_or(lines),
     }
 }
 
-impl Signals {
-    // By the evaluator, pattern by pattern.
-    pub(crate) fn of<G: Algebra>(
-        heap: Global,
-        algebra: &G,
-        inputs: u8,
-        lines: &[Line],
-    ) -> Result<Signals, AllocError> {
-        let lines = accepted(algebra, inputs, lines);
-        let patterns = pattern_count(inputs);
-        let mut on_one = vec![in heap; 0u8; lines.len()]?;
-        let mut signals = Signals {
-            patterns,
-            values: vec![in heap; 0u8; patterns.wrapping_mul(lines.len())]?,
-        };
-        for number in 0..patterns {
-            if let Ok(pattern) = Pattern::new(inputs, number as u64) {
-                let _ = evaluate(algebra, lines, pattern, &mut on_one);
-                signals.set(number, &on_one);
-            }
-        }
-        Ok(signals)
+// The signals of a netlist's lines, up to the first that is refused: by the evaluator, pattern by pattern.
+pub(crate) fn signals_of<G: Algebra>(
+    heap: Global,
+    algebra: &G,
+    inputs: u8,
+    patterns: &[Pattern],
+    lines: &[Line],
+) -> Result<Vec<Signal>, AllocError> {
+    let lines = accepted(algebra, inputs, lines);
+    let mut signals = Vec::new(heap);
+    for _ in lines {
+        signals.push(Vec::with_capacity(heap, patterns.len())?)?;
     }
-
-    // Sets the values of all lines on a pattern.
-    fn set(&mut self, pattern: usize, values: &[u8]) {
-        let mut place = pattern;
-        for value in values {
-            if let Some(own) = self.values.get_mut(place) {
-                *own = *value;
-            }
-            place = place.wrapping_add(self.patterns);
+    let mut values = vec![in heap; 0u8; lines.len()]?;
+    for pattern in patterns {
+        // lines that are accepted are not refused here
+        let _ = evaluate(algebra, lines, *pattern, &mut values);
+        for (signal, value) in signals.iter_mut().zip(values.iter()) {
+            signal.push(*value)?;
         }
     }
-
-    // The signal of a line.
-    pub(crate) fn line(&self, number: usize) -> &[u8] {
-        let from = number.wrapping_mul(self.patterns);
-        let end = from.wrapping_add(self.patterns);
-        self.values.get(from..end).unwrap_or(&NONE)
-    }
-}
-
-// The signal of an input.
-pub(crate) fn input_signal(heap: Global, inputs: u8, input: u8) -> Result<Vec<u8>, AllocError> {
-    let mut signal = Vec::new(heap);
-    for number in 0..pattern_count(inputs) {
-        if let Ok(pattern) = Pattern::new(inputs, number as u64) {
-            signal.push(pattern.bit(input))?;
-        }
-    }
-    Ok(signal)
+    Ok(signals)
 }
 
 // The NOT of a signal.
@@ -86,27 +50,34 @@ pub(crate) fn turned<G: Algebra>(
     heap: Global,
     algebra: &G,
     signal: &[u8],
-) -> Result<Vec<u8>, AllocError> {
-    let mut result = Vec::new(heap);
-    for value in signal {
-        result.push(algebra.turn(*value))?;
-    }
-    Ok(result)
+) -> Result<Signal, AllocError> {
+    signal
+        .iter()
+        .map(|value| algebra.turn(*value))
+        .collect(heap)
 }
 
 // An operator of two signals.
 pub(crate) fn joined<G: Algebra>(
     heap: Global,
     algebra: &G,
-    op: u8,
+    op: Op,
     left: &[u8],
     right: &[u8],
-) -> Result<Vec<u8>, AllocError> {
-    let mut result = Vec::new(heap);
-    for (x, y) in left.iter().zip(right.iter()) {
-        result.push(algebra.operate_by_number(op, *x, *y))?;
-    }
-    Ok(result)
+) -> Result<Signal, AllocError> {
+    let both = left.iter().zip(right.iter());
+    both.map(|(x, y)| algebra.operate(op, *x, *y)).collect(heap)
+}
+
+// The first pattern on which two signals have a grade, with both values there.
+fn first_of(grade: u8, grades: &[u8], left: &[u8], right: &[u8]) -> Option<Difference> {
+    let pattern = grades.iter().position(|own| *own == grade)?;
+    Some(Difference {
+        grade,
+        pattern: pattern as u64,
+        left: *left.get(pattern)?,
+        right: *right.get(pattern)?,
+    })
 }
 
 // The finding of two signals: the gravest of their grades, and the first pattern that has it.
@@ -116,29 +87,9 @@ pub(crate) fn finding<G: Algebra>(
     left: &[u8],
     right: &[u8],
 ) -> Finding {
-    for wanted in algebra.grave_order() {
-        let both = left.iter().zip(right.iter());
-        for ((pattern, grade), (x, y)) in grades.iter().enumerate().zip(both) {
-            if *grade == *wanted {
-                return Finding::Differs(Difference {
-                    grade: *grade,
-                    pattern: pattern as u64,
-                    left: *x,
-                    right: *y,
-                });
-            }
-        }
-    }
-    Finding::Clean
-}
-
-// Whether two findings are the same.
-pub(crate) fn same_finding(one: Finding, other: Finding) -> bool {
-    match (one, other) {
-        (Finding::Clean, Finding::Clean) => true,
-        (Finding::Differs(x), Finding::Differs(y)) => {
-            x.grade == y.grade && x.pattern == y.pattern && x.left == y.left && x.right == y.right
-        }
-        _ => false,
-    }
+    algebra
+        .grave_order()
+        .iter()
+        .find_map(|grade| first_of(*grade, grades, left, right))
+        .map_or(Finding::Clean, Finding::Differs)
 }

@@ -1,0 +1,210 @@
+// Holding what lay and compare were told to the evaluator's signals, line by line and pair by pair.
+use crate::audit::Audit;
+use crate::signals::Signal;
+use algebra::{Algebra, Op};
+use comparison::{Checked, CompareFault, LayFault, LineReason, LineRefusal, PairRefusal};
+use diagram::TableFault;
+use evaluation::compare_by_patterns;
+use netlist::{Finding, Line, check_line, count_outs};
+use std::alloc::{AllocError, Global};
+
+const NO_HANDLES: [u32; 0] = [];
+
+// A netlist, with the signals of its lines.
+#[derive(Drop)]
+struct Netlist<'a> {
+    lines: &'a [Line],
+    signals: Vec<Signal>,
+}
+
+impl<'a> Netlist<'a> {
+    // The signals of the OUT lines.
+    fn outs(&self, heap: Global) -> Result<Vec<&Signal>, AllocError> {
+        self.lines
+            .iter()
+            .zip(self.signals.iter())
+            .filter(|(line, _)| line.is_out())
+            .map(|(_, signal)| signal)
+            .collect(heap)
+    }
+}
+
+impl<'a, G: Algebra> Audit<'a, G> {
+    // The refusal that is due where there are too few work rows.
+    pub(crate) fn check_rows(&self) -> Result<(), TableFault> {
+        if self.setting.rows > usize::from(self.setting.inputs) {
+            Ok(())
+        } else {
+            Err(TableFault::FewRows)
+        }
+    }
+
+    // The refusal of a lay that is due before its first line.
+    fn check_lay(&self, lines: &[Line], handles: &[u32]) -> Result<(), LayFault> {
+        if handles.len() < lines.len() {
+            return Err(LayFault::ShortList);
+        }
+        self.check_rows().map_err(LayFault::Table)
+    }
+
+    // The refusal of a compare that is due before its first line.
+    fn check_compare(
+        &self,
+        first: &[Line],
+        second: &[Line],
+        handles: &[u32],
+        found: &[Checked],
+    ) -> Result<(), CompareFault> {
+        if handles.len() < first.len().saturating_add(second.len()) {
+            return Err(CompareFault::ShortList);
+        }
+        if found.len() < count_outs(first) {
+            return Err(CompareFault::FewFindings);
+        }
+        if count_outs(first) != count_outs(second) {
+            return Err(CompareFault::OutCounts);
+        }
+        self.check_rows().map_err(CompareFault::Table)
+    }
+
+    // A netlist with the signals of its lines, up to the first that is refused.
+    fn netlist<'n>(&self, lines: &'n [Line]) -> Result<Netlist<'n>, AllocError> {
+        let signals = self.signals(lines)?;
+        Ok(Netlist { lines, signals })
+    }
+
+    // Whether the lines up to a refused one, or all, have the handles that they are to have.
+    fn are_lines_right(
+        &mut self,
+        netlist: &Netlist<'_>,
+        handles: &[u32],
+        refused: Option<LineRefusal>,
+    ) -> Result<bool, AllocError> {
+        for ((number, line), handle) in netlist.lines.iter().enumerate().zip(handles.iter()) {
+            self.record.lines.add(1);
+            let answer = match refused {
+                Some(refusal) if refusal.line == number => Err(refusal.fault),
+                _ => Ok(*handle),
+            };
+            let right = match (
+                check_line(self.algebra, self.setting.inputs, number, *line),
+                netlist.signals.get(number),
+            ) {
+                (Err(fault), _) => self.is_refused(LineReason::Line(fault), answer)?,
+                (Ok(()), Some(signal)) => self.is_answered(signal.clone()?, answer)?,
+                (Ok(()), None) => false,
+            };
+            if !right || answer.is_err() {
+                return Ok(right);
+            }
+        }
+        Ok(refused.is_none())
+    }
+
+    // Whether a lay was told right.
+    pub(crate) fn is_lay_right(
+        &mut self,
+        lines: &[Line],
+        handles: &[u32],
+        told: Result<(), LayFault>,
+    ) -> Result<bool, AllocError> {
+        if let Err(due) = self.check_lay(lines, handles) {
+            self.record.refuse(due.number())?;
+            return Ok(told == Err(due));
+        }
+        let refused = match told {
+            Ok(()) => None,
+            Err(LayFault::Line(refusal)) => Some(refusal),
+            Err(_) => return Ok(false),
+        };
+        let netlist = self.netlist(lines)?;
+        self.are_lines_right(&netlist, handles, refused)
+    }
+
+    // The findings of two netlists whose lines were all accepted, by trying every pattern.
+    fn tried(&self, first: &[Line], second: &[Line]) -> Result<Vec<Finding>, AllocError> {
+        let lines = first.len().saturating_add(second.len());
+        let mut values = vec![in self.heap; 0u8; lines]?;
+        let mut found = vec![in self.heap; Finding::Clean; count_outs(first)]?;
+        // lines that are accepted are not refused here
+        let _ = compare_by_patterns(
+            self.algebra,
+            self.setting.inputs,
+            first,
+            second,
+            &mut values,
+            &mut found,
+        );
+        Ok(found)
+    }
+
+    // Whether the pairs up to a refused one, or all, have the handles and the findings that they are to have.
+    fn are_pairs_right(
+        &mut self,
+        first: &Netlist<'_>,
+        second: &Netlist<'_>,
+        found: &[Checked],
+        refused: Option<PairRefusal>,
+    ) -> Result<bool, AllocError> {
+        let tried = self.tried(first.lines, second.lines)?;
+        let lefts = first.outs(self.heap)?;
+        let rights = second.outs(self.heap)?;
+        let outs = lefts.iter().zip(rights.iter());
+        for (pair, ((left, right), (row, finding))) in outs
+            .zip(found.iter().zip(tried.iter()))
+            .enumerate()
+        {
+            self.record.pairs.add(1);
+            let grades = self.joined(Op::Grade, left, right)?;
+            let answer = match refused {
+                Some(refusal) if refusal.pair == pair => Err(LineReason::Table(refusal.fault)),
+                _ => Ok(row.handle),
+            };
+            if !self.is_answered(grades, answer)? {
+                return Ok(false);
+            }
+            if answer.is_err() {
+                return Ok(true);
+            }
+            self.record.findings.add(1);
+            if row.finding != *finding {
+                return Ok(false);
+            }
+        }
+        Ok(refused.is_none())
+    }
+
+    // Whether a compare was told right.
+    pub(crate) fn is_compare_right(
+        &mut self,
+        first: &[Line],
+        second: &[Line],
+        handles: &[u32],
+        found: &[Checked],
+        told: Result<usize, CompareFault>,
+    ) -> Result<bool, AllocError> {
+        if let Err(due) = self.check_compare(first, second, handles, found) {
+            self.record.refuse(due.number())?;
+            return Ok(told == Err(due));
+        }
+        let (in_first, in_second, pair) = match told {
+            Ok(pairs) if pairs == count_outs(first) => (None, None, None),
+            Err(CompareFault::First(LayFault::Line(refusal))) => (Some(refusal), None, None),
+            Err(CompareFault::Second(LayFault::Line(refusal))) => (None, Some(refusal), None),
+            Err(CompareFault::Pair(refusal)) => (None, None, Some(refusal)),
+            _ => return Ok(false),
+        };
+        let first = self.netlist(first)?;
+        let second = self.netlist(second)?;
+        let right = self.are_lines_right(&first, handles, in_first)?;
+        if !right || in_first.is_some() {
+            return Ok(right);
+        }
+        let rest = handles.get(first.lines.len()..).unwrap_or(&NO_HANDLES);
+        let right = self.are_lines_right(&second, rest, in_second)?;
+        if !right || in_second.is_some() {
+            return Ok(right);
+        }
+        self.are_pairs_right(&first, &second, found, pair)
+    }
+}
