@@ -1,9 +1,8 @@
 -- The rows of reports: their sizes, and a row from its parts. Assumes nothing.
-use Rattle.std.proofs.Common.{◌≡◌, ℕ, suc, ◌+◌, ◌/◌, ◌^◌, ◌<◌, ◌≤◌, List, [], ◌∷◌, ◌++◌, map, length, get_or, take, drop, set, Some, None, codes, Option, sym, refl, ap, ◌∙◌, subst, append_assoc, append-nil, arith, pow_mono}
-use Rattle.std.specs.List.{range_with_len}
+use Rattle.std.proofs.Common.{◌≡◌, ℕ, suc, ◌+◌, ◌/◌, ◌^◌, ◌<◌, ◌≤◌, List, [], ◌∷◌, ◌++◌, map, length, get_or, take, drop, Some, None, codes, Option, sym, refl, ap, ◌∙◌, append_assoc, append-nil, arith, pow_mono}
 use Rattle.std.specs.Option.{SomeIff, unwrap_or}
 use Rattle.std.proofs.lemmas.Nat.{div_below, pow_pos}
-use Rattle.std.proofs.lemmas.List.FromFn.{length-map-range_with_len, map-range_with_len_more}
+use Rattle.std.proofs.lemmas.List.FromFn.{length-map-range_with_len}
 use Rattle.std.proofs.lemmas.List.{length-append, length-map, length-take-le, map_more, at_drop_more, at_drop_all}
 use Rattle.netlist.specs.declared.finding.Difference.{Difference}
 use Rattle.netlist.specs.declared.finding.Finding.{Finding}
@@ -14,7 +13,7 @@ use Rattle.text.specs.declared.writer.Summary.TheVariants.{Tried, Report}
 use Rattle.text.specs.Rows.{number_field, operand_field}
 use Rattle.text.specs.Reports.{summary_word, summary_row, fault_row, bits, difference, finding_row, findings_text, finding_size, findings_size, Written}
 use Rattle.text.proofs.Framing.{row_length}
-use Rattle.text.proofs.Writing.{written_none, written_set, written_more, written_as, same_length}
+use Rattle.text.proofs.Writing.{written_none, written_more, written_as, same_length}
 
 pub summary_size : (pairs : ℕ) (word : Summary) (number : ℕ) → length (summary_row pairs word number) ≡ 19
 unfolding summary_row
@@ -82,14 +81,6 @@ findings_push letter width m (g ∷ fs) f =
     ∙ sym (append_assoc (finding_row letter width m g) (findings_text letter width (suc m) fs) (finding_row letter width (m + suc (length fs)) f))
 
 -- and one bit
-pub bits_more : (f : ℕ → ℕ) (n at : ℕ) (x y : List ℕ) (r : ℕ) → Written (map f (range_with_len 0 n)) at x y (at + n) → r ≡ f n → at + n < length y
-    → Written (map f (range_with_len 0 (n + 1))) at x (set y (at + n) r) (at + (n + 1))
-bits_more f n at x y r w e h =
-    let v = written_more (map f (range_with_len 0 n)) at x y (at + n) w (r ∷ []) (set y (at + n) r) (at + n + 1) (written_set (at + n) r y h) in
-    let q : map f (range_with_len 0 n) ++ (r ∷ []) ≡ map f (range_with_len 0 (n + 1)) = ap (λ z. map f (range_with_len 0 n) ++ (z ∷ [])) e ∙ sym (map-range_with_len_more f 0 n n (omega arith)) in
-    let k : at + n + 1 ≡ at + (n + 1) = omega arith in
-    subst (Written (map f (range_with_len 0 (n + 1))) at x (set y (at + n) r)) k (written_as _ _ at x (set y (at + n) r) (at + n + 1) q v)
-
 -- a finding's row from its parts
 pub clean_is : (letter : ℕ → ℕ) (width n : ℕ) (a : List ℕ) (x : ℕ) → a ≡ number_field n → x ≡ letter 0 → a ++ (32 ∷ x ∷ 10 ∷ []) ≡ finding_row letter width n Clean
 unfolding finding_row

@@ -98,16 +98,24 @@ fn bit_digit(width: u8, pattern: u64, input: u8) -> u8
     b'0' + bit as u8
 }
 
-// Writes the bits of a pattern, input 0 first, and answers their end.
+// Writes the bits of a pattern, input 0 first.
+fn fill_bits(digits: &mut [u8], width: u8, pattern: u64)
+    requires { length digits.old ≡ width }
+    ensures { digits.new ≡ bits width pattern }
+{
+    for (input, digit) in digits.iter_mut().enumerate() {
+        *digit = bit_digit(width, pattern, input as u8);
+    }
+}
+
+// The same at a place, and answers their end.
 fn put_bits(out: &mut [u8], at: usize, width: u8, pattern: u64) -> usize
     requires { at + width ≤ length out.old }
     ensures { Written (bits width pattern) at out.old out.new result }
 {
-    // By index: of a part of the bytes that `iter_mut` wrote, a proof knows the length alone.
-    for input in 0..width {
-        out[at + input as usize] = bit_digit(width, pattern, input);
-    }
-    at + width as usize
+    let end = at + usize::from(width);
+    fill_bits(&mut out[at..end], width, pattern);
+    end
 }
 
 fn size_of_row(width: u8, finding: Finding) -> usize
