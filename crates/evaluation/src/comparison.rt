@@ -85,6 +85,7 @@ fn regrade_pairs<G: Algebra>(
     requires right { length findings.old ≤ length right.now }
     ensures { (ss ts : List Signal) → length ss ≡ length findings.old → length ts ≡ length ss → take (length ss) left.now ≡ values_at number ss → take (length ss) right.now ≡ values_at number ts → findings.old ≡ zipped (finding_below G.ops number) ss ts → findings.new ≡ zipped (finding_below G.ops (number + 1)) ss ts }
 {
+    // by index: behind a `zip` with `iter_mut` a proof does not see what is written
     for (pair, finding) in findings.iter_mut().enumerate() {
         *finding = regrade(algebra, *finding, number, left[pair], right[pair]);
     }
@@ -156,6 +157,7 @@ fn try_patterns<G: Algebra>(
 {
     found.fill(Finding::Clean);
     for number in 0..1u64 << inputs {
+        // each number is below 2 ^ inputs
         let Ok(pattern) = Pattern::new(inputs, number) else {
             return;
         };

@@ -44,6 +44,7 @@ pub(crate) fn fill_values<G: Algebra>(
     requires room { length lines.now ≤ length values.old }
     ensures { values.new ≡ values_at pattern.number (line_signals G.ops pattern.width lines.now) ++ drop (length lines.now) values.old }
 {
+    // by index, since each value is made from those before it in the same list
     for (number, line) in lines.iter().enumerate() {
         values[number] = line_value(algebra, pattern, number, *line, values);
     }

@@ -43,7 +43,7 @@ pub enum EvaluationFault {
 }
 
 impl EvaluationFault {
-    // The number of the refusal.
+    // The number of the refusal; no cast gives it, since a refused line has its own.
     pub fn number(self) -> u8
         ensures { result ≡ evaluation_fault_number self }
     {
@@ -88,7 +88,7 @@ pub enum ComparisonFault {
 }
 
 impl ComparisonFault {
-    // The number of the refusal.
+    // The number of the refusal; no cast gives it, since a refused line has its own.
     pub fn number(self) -> u8
         ensures { result ≡ comparison_fault_number self }
     {
