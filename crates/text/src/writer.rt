@@ -33,6 +33,9 @@ fn has_room(len: usize, at: usize, size: usize) -> bool
     size <= len && at <= len - size
 }
 
+// The bytes and the place in them stay two parameters: of a struct of both, each contract would say besides that it still
+// holds the reference that the caller lent.
+
 // Writes a text that fits, and answers its end.
 fn put(out: &mut [u8], at: usize, text: &[u8]) -> usize
     requires { at + length text.now ≤ length out.old }
