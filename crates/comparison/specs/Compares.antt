@@ -7,7 +7,6 @@ use Rattle.netlist.specs.Lines.{out_count}
 use Rattle.netlist.specs.Faults.{first_fault}
 use Rattle.netlist.specs.Counts.{Counts, CountsRefused}
 use Rattle.netlist.specs.declared.fault.CountFault.TheVariants.{ShortList as NoRoom, FewFindings as NoRows, OutCounts as Uneven}
-use Rattle.records.specs.declared.fault.TableFault.{TableFault}
 use Rattle.records.specs.declared.fault.TableFault.TheVariants.{FewRows}
 use Rattle.records.specs.Stores.{Store}
 use Rattle.memo.specs.Memos.{Pairs}

@@ -1,7 +1,7 @@
-use Rattle.std.proofs.Common.{◌≡◌, ◌+◌, ◌<◌, length, drop, sym, ap, ◌∙◌, subst, arith, length-drop}
+use Rattle.std.proofs.Common.{◌≡◌, drop, ap, ◌∙◌, arith, length-drop}
 use Rattle.std.specs.List.{position_or_len}
-use Rattle.std.proofs.lemmas.List.{take_rest, drop-drop}
-use Rattle.netlist.specs.Lines.{is_out, outs}
+use Rattle.std.proofs.lemmas.List.{take_rest}
+use Rattle.netlist.specs.Lines.{is_out}
 use Rattle.comparison.proofs.Pairings.{before_within, before_found, before_skips}
 use Rattle.comparison.proofs.pairing.next_out.Goals as goal
 
