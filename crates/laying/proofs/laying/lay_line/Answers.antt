@@ -1,4 +1,4 @@
-use Rattle.std.proofs.Common.{take, Err}
+use Rattle.std.proofs.Common.{take}
 use Rattle.std.proofs.lemmas.Result.{err_from_is_err_and}
 use Rattle.records.proofs.Shapes.{well}
 use Rattle.diagram.proofs.Fulls.{table_fits}
