@@ -202,10 +202,14 @@ impl<'a, G: Algebra> Audit<'a, G> {
     // one handle.
     pub(crate) fn is_answered(
         &mut self,
-        signal: Signal,
+        signal: &[u8],
         answer: Answer,
     ) -> Result<bool, AllocError> {
-        let parts = missing_parts(self.heap, self.algebra, self.book.parts(), &signal)?;
+        if let Some(booked) = self.book.handle(signal) {
+            self.record.values.add(signal.len());
+            return Ok(answer == Ok(booked) && self.has_values(booked, signal));
+        }
+        let parts = missing_parts(self.heap, self.algebra, self.book.parts(), signal)?;
         if self.book.places().saturating_add(parts.len()) > self.setting.room {
             return self.is_refused(LineReason::Table(TableFault::Full), answer);
         }
@@ -213,8 +217,7 @@ impl<'a, G: Algebra> Audit<'a, G> {
             return Ok(false);
         };
         self.record.values.add(signal.len());
-        let same = self.has_values(handle, &signal);
-        Ok(self.book.enter(handle, signal, parts)? && same)
+        Ok(self.has_values(handle, signal) && self.book.enter(handle, signal, parts)?)
     }
 
     // Whether an answer is right where a call is to answer this, or is due this refusal.
@@ -224,7 +227,7 @@ impl<'a, G: Algebra> Audit<'a, G> {
         answer: Answer,
     ) -> Result<bool, AllocError> {
         match wanted {
-            Ok(signal) => self.is_answered(signal, answer),
+            Ok(signal) => self.is_answered(&signal, answer),
             Err(NoSignal::Refused(fault)) => self.is_refused(LineReason::Table(fault), answer),
             Err(NoSignal::Memory(fault)) => Err(fault),
         }

@@ -6,6 +6,7 @@ use std::collections::{HashMap, HashSet};
 
 #[derive(Drop)]
 pub(crate) struct Book {
+    heap: Global,
     parts: Parts,
     signals: HashMap<u32, Signal>,
     handles: HashMap<Signal, u32>,
@@ -14,6 +15,7 @@ pub(crate) struct Book {
 impl Book {
     pub(crate) fn new(heap: Global) -> Book {
         Book {
+            heap,
             parts: HashSet::new(heap),
             signals: HashMap::new(heap),
             handles: HashMap::new(heap),
@@ -35,23 +37,22 @@ impl Book {
         self.signals.get(&handle)
     }
 
-    // Books a signal for a handle, with those of its parts that were missing. Whether the handle is booked for this signal alone, and this signal for
-    // no other handle.
+    // The handle that was booked for a signal.
+    pub(crate) fn handle(&self, signal: &[u8]) -> Option<u32> {
+        self.handles.get(signal).copied()
+    }
+
+    // Books a signal that has no handle, with those of its parts that were missing. Whether the handle was booked for no
+    // other signal.
     pub(crate) fn enter(
         &mut self,
         handle: u32,
-        signal: Signal,
+        signal: &[u8],
         parts: Parts,
     ) -> Result<bool, AllocError> {
         self.parts.extend(parts)?;
-        match (self.signals.get(&handle), self.handles.get(&signal)) {
-            (Some(booked), Some(own)) => Ok(*booked == signal && *own == handle),
-            (None, None) => {
-                self.signals.insert(handle, signal.clone()?)?;
-                self.handles.insert(signal, handle)?;
-                Ok(true)
-            }
-            _ => Ok(false),
-        }
+        self.handles.insert(signal.to_vec(self.heap)?, handle)?;
+        let other = self.signals.insert(handle, signal.to_vec(self.heap)?)?;
+        Ok(other.is_none())
     }
 }

@@ -91,7 +91,7 @@ impl<'a, G: Algebra> Audit<'a, G> {
                 netlist.signals.get(number),
             ) {
                 (Err(fault), _) => self.is_refused(LineReason::Line(fault), answer)?,
-                (Ok(()), Some(signal)) => self.is_answered(signal.clone()?, answer)?,
+                (Ok(()), Some(signal)) => self.is_answered(signal, answer)?,
                 (Ok(()), None) => false,
             };
             if !right || answer.is_err() {
@@ -160,7 +160,7 @@ impl<'a, G: Algebra> Audit<'a, G> {
                 Some(refusal) if refusal.pair == pair => Err(LineReason::Table(refusal.fault)),
                 _ => Ok(row.handle),
             };
-            if !self.is_answered(grades, answer)? {
+            if !self.is_answered(&grades, answer)? {
                 return Ok(false);
             }
             if answer.is_err() {

@@ -46,10 +46,9 @@ impl<'a, G: Algebra> Missing<'a, G> {
             return self.add(low);
         }
         let part = self.kept(block)?;
-        if self.known.contains(&part) || self.parts.contains(&part) {
+        if self.known.contains(&part) || !self.parts.insert(part)? {
             return Ok(());
         }
-        self.parts.insert(part)?;
         self.add(low)?;
         self.add(high)
     }
