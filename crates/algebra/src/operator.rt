@@ -1,9 +1,6 @@
 ghost use Rattle.std.specs.Prelude.{◌≡◌};
 ghost use Rattle.algebra.specs.Operators.{op_number, OpOf};
 
-use std::error::Error;
-use std::fmt;
-
 // The operators of two operands, with the numbers that netlists and calls give them.
 #[derive(Clone, Copy, PartialEq, Eq, Debug)]
 pub enum Op {
@@ -44,11 +41,3 @@ impl TryFrom<u8> for Op {
         }
     }
 }
-
-impl fmt::Display for UnknownOperator {
-    fn fmt<W: fmt::Write>(&self, f: &mut fmt::Formatter<W>) -> fmt::Result {
-        write!(f, "no operator has number {}", self.0)
-    }
-}
-
-impl Error for UnknownOperator {}

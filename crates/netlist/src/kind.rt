@@ -1,9 +1,6 @@
 ghost use Rattle.std.specs.Prelude.{◌≡◌};
 ghost use Rattle.netlist.specs.Kinds.{kind_number, KindOf};
 
-use std::error::Error;
-use std::fmt;
-
 // What a line can be, with the numbers that netlists give the kinds.
 #[derive(Clone, Copy, PartialEq, Eq, Debug)]
 pub enum Kind {
@@ -50,11 +47,3 @@ impl TryFrom<u8> for Kind {
         }
     }
 }
-
-impl fmt::Display for UnknownKind {
-    fn fmt<W: fmt::Write>(&self, f: &mut fmt::Formatter<W>) -> fmt::Result {
-        write!(f, "no kind of line has number {}", self.0)
-    }
-}
-
-impl Error for UnknownKind {}
