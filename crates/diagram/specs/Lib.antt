@@ -3,5 +3,6 @@ pub mod Chains
 pub mod Uses
 pub mod Views
 pub mod Shortcuts
+pub mod Targets
 pub mod Tasks
 pub mod Settles

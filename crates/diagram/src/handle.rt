@@ -1,29 +1,36 @@
 // Handles: 0 to 15 are constants, place p has handle 16 + 2 p, and one more with a mark.
 ghost use Rattle.std.specs.Prelude.{◌≡◌, ◌+◌, ◌≤◌, if◌then◌else◌, nat_lt};
 ghost use Rattle.records.specs.Stores.{handle, place, marked};
+ghost use Rattle.diagram.specs.Targets.{Aims};
 
 // The handle of the first place: handles below it are constants.
 const FIRST_PLACE: u32 = 16;
+
+// What a handle leads to: a constant by its code, or a place, with or without a mark.
+#[derive(Clone, Copy, PartialEq, Eq, Debug)]
+pub(crate) enum Target {
+    Constant(u8),
+    Place { place: usize, marked: bool },
+}
+
+impl Target {
+    pub(crate) fn of(h: u32) -> Target
+        ensures { Aims h result }
+    {
+        match h.checked_sub(FIRST_PLACE) {
+            None => Target::Constant(h as u8),
+            Some(n) => Target::Place {
+                place: (n / 2) as usize,
+                marked: n % 2 == 1,
+            },
+        }
+    }
+}
 
 pub(crate) fn is_constant(h: u32) -> bool
     ensures { result ≡ nat_lt h 16 }
 {
     h < FIRST_PLACE
-}
-
-pub(crate) fn is_marked(h: u32) -> bool
-    requires { 16 ≤ h }
-    ensures { result ≡ marked h }
-{
-    (h - FIRST_PLACE) % 2 == 1
-}
-
-// The place of a handle, with or without a mark.
-pub(crate) fn place_of(h: u32) -> usize
-    requires { 16 ≤ h }
-    ensures { result ≡ place h }
-{
-    ((h - FIRST_PLACE) / 2) as usize
 }
 
 // The handle of a place, with no mark.

@@ -1,14 +1,15 @@
 // What a handle of a table stands for. These calls leave the table as it is.
-ghost use Rattle.std.specs.Prelude.{◌≡◌, ℕ, ◌≤◌, IfOk, Decides};
+ghost use Rattle.std.specs.Prelude.{◌≡◌, ℕ, ◌<◌, IfOk, Decides, if◌then◌else◌};
 ghost use Rattle.records.specs.Changes.{Within};
 ghost use Rattle.records.specs.Faults.{value_refusal, reach_refusal, unless_refused};
 ghost use Rattle.records.specs.Marks.{reach_of};
-ghost use Rattle.records.specs.Rules.{Placed, Sound, Occurs, lawful};
-ghost use Rattle.records.specs.Stores.{place, side_on, under_mark, value, up};
+ghost use Rattle.records.specs.Rules.{Sound, Occurs, lawful};
+ghost use Rattle.records.specs.Stores.{side, value, up};
+ghost use Rattle.netlist.specs.Signals.{bit};
 ghost use Rattle.diagram.specs.Views.{view};
 
 use crate::codes::Codes;
-use crate::handle::{is_constant, is_marked, place_of};
+use crate::handle::Target;
 use crate::table::Table;
 use algebra::Algebra;
 use netlist::Pattern;
@@ -17,15 +18,22 @@ use records::{Record, TableFault};
 mod find;
 mod support;
 
-// The NOT of a value where the handle is marked.
-fn under_mark<G: Algebra>(algebra: &G, h: u32, code: u8) -> u8
-    requires { 16 ≤ h }
-    ensures { result ≡ under_mark G.ops h code }
+// The NOT of a value where a place is marked.
+fn under_mark<G: Algebra>(algebra: &G, marked: bool, code: u8) -> u8
+    ensures { result ≡ (if marked then G.ops.turn code else code) }
 {
-    if is_marked(h) {
-        algebra.turn(code)
+    if marked { algebra.turn(code) } else { code }
+}
+
+// The side of a record that the bit of its input chooses.
+fn side_on(r: Record, pattern: Pattern) -> u32
+    requires { r.input < pattern.width }
+    ensures { result ≡ side r (bit pattern.width pattern.number r.input) }
+{
+    if pattern.bit(r.input) == 1 {
+        r.high
     } else {
-        code
+        r.low
     }
 }
 
@@ -37,42 +45,20 @@ impl Table {
         self.lawful(&Codes::of(algebra), h)
     }
 
-    // The record of a handle that is no constant.
-    fn record_of(&self, h: u32) -> Record
-        requires large { 16 ≤ h }
-        requires within { Within (view self.now) h }
-        ensures read { result ≡ (view self.now).at (place h) }
-        ensures placed { Placed (view self.now) (place h) result }
-    {
-        self.record_at(place_of(h))
-    }
-
-    // The side of a place that the bit of its input chooses.
-    fn side_on(&self, h: u32, pattern: Pattern) -> u32
-        requires large { 16 ≤ h }
-        requires within { Within (view self.now) h }
-        requires wide { pattern.width ≡ (view self.now).inputs }
-        ensures { result ≡ side_on (view self.now) h pattern.number }
-    {
-        let record = self.record_of(h);
-        if pattern.bit(record.input) == 1 {
-            record.high
-        } else {
-            record.low
-        }
-    }
-
     // Goes down by the pattern's bits to a constant, and turns it back up under each mark on the way.
     fn value_in_use<G: Algebra>(&self, algebra: &G, h: u32, pattern: Pattern) -> u8
         requires within { Within (view self.now) h }
         requires wide { pattern.width ≡ (view self.now).inputs }
         ensures { result ≡ value G.ops (view self.now) h pattern.number }
     {
-        if is_constant(h) {
-            return h as u8;
+        match Target::of(h) {
+            Target::Constant(code) => code,
+            Target::Place { place, marked } => {
+                let side = side_on(self.record_at(place), pattern);
+                let below = self.value_in_use(algebra, side, pattern);
+                under_mark(algebra, marked, below)
+            }
         }
-        let below = self.value_in_use(algebra, self.side_on(h, pattern), pattern);
-        under_mark(algebra, h, below)
     }
 
     // The value of a handle on a pattern.

@@ -10,7 +10,7 @@ ghost use Rattle.diagram.specs.Tasks.{number_of};
 ghost use Rattle.diagram.specs.Views.{view};
 
 use crate::codes::{Codes, MOST_CODES, is_up};
-use crate::handle::is_constant;
+use crate::handle::{Target, is_constant};
 use crate::table::Table;
 use crate::task::{Operation, Task};
 use algebra::Algebra;
@@ -19,7 +19,10 @@ use algebra::Algebra;
 fn operand(h: u32, v: u8) -> u8
     ensures { result ≡ operand h v }
 {
-    if is_constant(h) { h as u8 } else { v }
+    match Target::of(h) {
+        Target::Constant(code) => code,
+        Target::Place { .. } => v,
+    }
 }
 
 // What the operation gives where the operand that is no constant has the value `v`.
@@ -85,9 +88,8 @@ pub(crate) fn shortcut<G: Algebra>(table: &Table, codes: &Codes<G>, task: Task) 
         (task.x < 16 → task.y < 16 → ⊥)
         (Short G.ops (view table.now) (number_of task.operation) task.x task.y) }
 {
-    if is_constant(task.x) && is_constant(task.y) {
-        let value = task.operation.at(codes.algebra, task.x as u8, task.y as u8);
-        return Some(value as u32);
+    if let (Target::Constant(x), Target::Constant(y)) = (Target::of(task.x), Target::of(task.y)) {
+        return Some(task.operation.at(codes.algebra, x, y) as u32);
     }
     match task.operation {
         Operation::Join(_) => joined(table, codes, task),

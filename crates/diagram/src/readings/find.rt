@@ -9,7 +9,7 @@ ghost use Rattle.diagram.specs.Views.{view};
 
 use super::under_mark;
 use crate::codes::{Codes, is_up};
-use crate::handle::is_constant;
+use crate::handle::Target;
 use crate::table::Table;
 use algebra::Algebra;
 use records::TableFault;
@@ -32,11 +32,11 @@ impl Table {
         ensures first { Sound G.ops (view self.now) → Lawful G.ops (view self.now) h → Occurs G.ops (view self.now) h wanted
             → first (view self.now).inputs (value G.ops (view self.now) h) wanted ≡ Some result }
     {
-        if is_constant(h) {
+        let Target::Place { place, marked } = Target::of(h) else {
             return 0;
-        }
-        let record = self.record_of(h);
-        let below = under_mark(codes.algebra, h, wanted);
+        };
+        let record = self.record_at(place);
+        let below = under_mark(codes.algebra, marked, wanted);
         if is_up(self.reach_of(codes, record.low), below) {
             return self.first_in_use(codes, record.low, below);
         }

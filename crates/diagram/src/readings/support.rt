@@ -7,7 +7,7 @@ ghost use Rattle.records.specs.Supports.{support_of, Covers, Collected, AllDone}
 ghost use Rattle.diagram.specs.Views.{view};
 
 use crate::codes::Codes;
-use crate::handle::{handle_of, is_constant, place_of};
+use crate::handle::{Target, handle_of};
 use crate::table::Table;
 use algebra::Algebra;
 use records::{Row, TableFault};
@@ -46,11 +46,10 @@ impl Table {
         ensures collected { Collected (view self.now) h mask result }
         ensures done { AllDone (view self.now) result rows.new }
     {
-        if is_constant(h) {
+        let Target::Place { place, .. } = Target::of(h) else {
             return mask;
-        }
-        let record = self.record_of(h);
-        let place = place_of(h);
+        };
+        let record = self.record_at(place);
         let bare = handle_of(place);
         let row = self.row_of(rows.len(), place, record.input);
         if rows[row].low == bare {

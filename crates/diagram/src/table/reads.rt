@@ -1,11 +1,12 @@
 ghost use Rattle.std.specs.Prelude.{◌≡◌, ◌<◌, ◌≤◌, length, MatchResult};
 ghost use Rattle.records.specs.Changes.{Within};
+ghost use Rattle.records.specs.Rules.{Placed};
 ghost use Rattle.records.specs.Steps.{Split};
 ghost use Rattle.records.specs.Stores.{level};
 ghost use Rattle.diagram.specs.Views.{view};
 
 use super::{Sides, Table};
-use crate::handle::{is_constant, place_of};
+use crate::handle::Target;
 use records::{Record, Row, TableFault};
 
 impl Table {
@@ -24,7 +25,8 @@ impl Table {
 
     pub(crate) fn record_at(&self, p: usize) -> Record
         requires { p < (view self.now).used }
-        ensures { result ≡ (view self.now).at p }
+        ensures read { result ≡ (view self.now).at p }
+        ensures placed { Placed (view self.now) p result }
     {
         self.places.get(p)
     }
@@ -34,10 +36,9 @@ impl Table {
         requires { Within (view self.now) h }
         ensures { result ≡ level (view self.now) h }
     {
-        if is_constant(h) {
-            self.inputs
-        } else {
-            self.record_at(place_of(h)).input
+        match Target::of(h) {
+            Target::Constant(_) => self.inputs,
+            Target::Place { place, .. } => self.record_at(place).input,
         }
     }
 
@@ -48,10 +49,10 @@ impl Table {
         requires inside { input < (view self.now).inputs }
         ensures { Split (view self.now) h input result.low result.high }
     {
-        if is_constant(h) {
+        let Target::Place { place, .. } = Target::of(h) else {
             return Sides { low: h, high: h };
-        }
-        let r = self.record_at(place_of(h));
+        };
+        let r = self.record_at(place);
         if r.input != input {
             return Sides { low: h, high: h };
         }

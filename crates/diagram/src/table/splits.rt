@@ -8,7 +8,7 @@ ghost use Rattle.records.specs.Walks.{Cut, cofactor_at};
 
 use super::{Sides, Table};
 use crate::codes::Codes;
-use crate::handle::{is_constant, is_marked, place_of};
+use crate::handle::Target;
 use algebra::Algebra;
 use records::Row;
 
@@ -17,7 +17,12 @@ impl Table {
     pub(crate) fn is_from(&self, h: u32, input: u8) -> bool
         ensures { MatchBool result (From (view self.now) input h) (Unit {0}) }
     {
-        (is_constant(h) || place_of(h) < self.used()) && input <= self.level(h)
+        match Target::of(h) {
+            Target::Constant(_) => input <= self.inputs,
+            Target::Place { place, .. } => {
+                place < self.used() && input <= self.record_at(place).input
+            }
+        }
     }
 
     // What is left of a handle at an input that it tests first or not at all; under a mark the sides are turned.
@@ -32,9 +37,9 @@ impl Table {
         if self.level(h) != input {
             return sides;
         }
-        if !is_marked(h) {
+        let Target::Place { marked: true, .. } = Target::of(h) else {
             return sides;
-        }
+        };
         Sides {
             low: self.negate(codes, sides.low),
             high: self.negate(codes, sides.high),

@@ -1,34 +1,26 @@
-use Rattle.std.proofs.Common.{sym, ap, ◌∙◌, arith, rules}
-use Rattle.std.proofs.lemmas.Bool.{ltb-true, ltb-false}
-use Rattle.records.specs.Stores.{value, under_mark}
+use Rattle.std.proofs.Common.{◌≡◌, cond, sym, ap, ◌∙◌, arith, rules}
+use Rattle.records.specs.Stores.{value, under_mark, side_on}
 use Rattle.diagram.specs.Views.{view}
 use Rattle.records.proofs.Shapes.{well}
 use Rattle.records.proofs.Values.{value_constant, value_place}
-use Rattle.records.proofs.Lookups.{side_on_before, side_on_within}
 use Rattle.diagram.proofs.table.Table.+value_in_use.Goals as goal
 
-pub returns-then-is_constant : goal.returns-then-is_constant
-returns-then-is_constant g t c =
-    sym (value_constant g.G.Algebra.ops (view c.args.self.now) c.args.h c.args.pattern.number (ltb-true c.args.h 16 (sym c.is_constant.ensures ∙ c.if-is_constant.true)))
+pub returns-in-Constant : goal.returns-in-Constant
+returns-in-Constant g t c =
+    let o = g.G.Algebra.ops in
+    let to = c.in-Constant.ensures in
+    to.1 ∙ sym (value_constant o (view c.args.self.now) c.args.h c.args.pattern.number to.0)
 
-pub value_in_use-below-requires : goal.value_in_use-below-requires
-value_in_use-below-requires g t c κs within =
-    let w = well c.args.self.now.well in
-    let h = c.args.h in
-    let p = c.args.pattern.number in
-    let large = ltb-false h 16 (sym c.is_constant.ensures ∙ c.if-is_constant.false) in
-    let before = side_on_before w h p large c.requires.within in
-    let inside = side_on_within w h p large c.requires.within in
-    let e = c.side_on.ensures in
-    (search rules, (within, (omega arith, c.requires.wide)))
-
-pub returns : goal.returns
-returns g t c =
+pub returns-in-Place : goal.returns-in-Place
+returns-in-Place g t c =
     let s = view c.args.self.now in
     let o = g.G.Algebra.ops in
     let h = c.args.h in
     let p = c.args.pattern.number in
-    let large = ltb-false h 16 (sym c.is_constant.ensures ∙ c.if-is_constant.false) in
-    c.under_mark.ensures
-    ∙ ap (under_mark o h) (c.value_in_use-below.ensures ∙ ap (λ k. value o s k p) c.side_on.ensures)
-    ∙ sym (value_place o (well c.args.self.now.well) h p large c.requires.within)
+    let to = c.in-Place.ensures in
+    let side : c.side_on-side.result ≡ side_on s h p = cc (c.side_on-side.ensures, c.record_at.ensures.read, to.place_is, c.requires.wide) in
+    let below = c.value_in_use-below.ensures ∙ ap (λ k. value o s k p) side in
+    let mark : c.under_mark.result ≡ under_mark o h c.value_in_use-below.result = c.under_mark.ensures ∙ ap (λ m. cond m (o.turn c.value_in_use-below.result) c.value_in_use-below.result) to.mark_is in
+    mark
+    ∙ ap (under_mark o h) below
+    ∙ sym (value_place o (well c.args.self.now.well) h p to.large c.requires.within)
