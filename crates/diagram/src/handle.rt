@@ -17,12 +17,14 @@ impl Target {
     pub(crate) fn of(h: u32) -> Target
         ensures { Aims h result }
     {
-        match h.checked_sub(FIRST_PLACE) {
-            None => Target::Constant(h as u8),
-            Some(n) => Target::Place {
-                place: (n / 2) as usize,
-                marked: n % 2 == 1,
-            },
+        if is_constant(h) {
+            return Target::Constant(h as u8);
+        }
+        // after a test, and not by `checked_sub`, with which a walk takes up to 3 in a hundred more instructions
+        let n = h - FIRST_PLACE;
+        Target::Place {
+            place: (n / 2) as usize,
+            marked: n % 2 == 1,
         }
     }
 }

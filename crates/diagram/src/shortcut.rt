@@ -88,8 +88,10 @@ pub(crate) fn shortcut<G: Algebra>(table: &Table, codes: &Codes<G>, task: Task) 
         (task.x < 16 → task.y < 16 → ⊥)
         (Short G.ops (view table.now) (number_of task.operation) task.x task.y) }
 {
-    if let (Target::Constant(x), Target::Constant(y)) = (Target::of(task.x), Target::of(task.y)) {
-        return Some(task.operation.at(codes.algebra, x, y) as u32);
+    // a match of both targets would make the second test also where the first fails, which slows each walk
+    if is_constant(task.x) && is_constant(task.y) {
+        let value = task.operation.at(codes.algebra, task.x as u8, task.y as u8);
+        return Some(value as u32);
     }
     match task.operation {
         Operation::Join(_) => joined(table, codes, task),

@@ -34,15 +34,14 @@ impl Table {
         ensures high { result.high ≡ cofactor_at G.ops (view self.now) h input 1 }
     {
         let sides = self.sides(h, input);
-        if self.level(h) != input {
-            return sides;
-        }
-        let Target::Place { marked: true, .. } = Target::of(h) else {
-            return sides;
-        };
-        Sides {
-            low: self.negate(codes, sides.low),
-            high: self.negate(codes, sides.high),
+        match Target::of(h) {
+            Target::Place { place, marked } if marked && self.record_at(place).input == input => {
+                Sides {
+                    low: self.negate(codes, sides.low),
+                    high: self.negate(codes, sides.high),
+                }
+            }
+            _ => sides,
         }
     }
 

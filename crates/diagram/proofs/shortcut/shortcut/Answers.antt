@@ -1,4 +1,5 @@
 use Rattle.std.proofs.Common.{sym, ap, ◌∙◌}
+use Rattle.std.proofs.lemmas.Bool.{ltb-true}
 use Rattle.records.specs.Rules.{settled_mask}
 use Rattle.records.proofs.Shapes.{well}
 use Rattle.diagram.specs.Tasks.{number_of}
@@ -6,11 +7,11 @@ use Rattle.diagram.specs.Views.{view}
 use Rattle.diagram.proofs.Telling.{short_leaf, short_negated}
 use Rattle.diagram.proofs.shortcut.shortcut.Goals as goal
 
-pub returns-in-Constant-Constant : goal.returns-in-Constant-Constant
-returns-in-Constant-Constant g c =
-    let to_x = c.in-Constant-Constant.ensures in
-    let to_y = c.in-Constant-Constant.ensures' in
-    short_leaf g.G.Algebra.laws (view c.args.table.now) (number_of c.args.task.operation) c.args.task.x c.args.task.y c.at.result to_x.0 to_y.0 (cc (c.at.ensures, to_x.1, to_y.1))
+pub returns-then-is_constant-2 : goal.returns-then-is_constant-2
+returns-then-is_constant-2 g c =
+    let x = ltb-true c.args.task.x 16 (sym c.is_constant.ensures ∙ c.if-is_constant.true) in
+    let y = ltb-true c.args.task.y 16 (sym c.is_constant-then-is_constant.ensures ∙ c.if-is_constant-2.true) in
+    short_leaf g.G.Algebra.laws (view c.args.table.now) (number_of c.args.task.operation) c.args.task.x c.args.task.y c.at-value.result x y c.at-value.ensures
 
 pub returns-then-settled : goal.returns-then-settled
 returns-then-settled g c =
