@@ -18,9 +18,8 @@ pub(crate) struct Replayed<'a, 'w> {
 }
 
 // A list without its first entries.
-fn past<T>(list: &[T], count: usize) -> &[T] {
-    let (_, rest) = list.split_at(count.min(list.len()));
-    rest
+pub(crate) fn past<T>(list: &[T], count: usize) -> &[T] {
+    &list[count.min(list.len())..]
 }
 
 fn answer(told: Result<u32, TableFault>) -> Answer {
@@ -28,7 +27,7 @@ fn answer(told: Result<u32, TableFault>) -> Answer {
 }
 
 impl<'a, 'w> Replayed<'a, 'w> {
-    // What a call leaves of the lists for handles and findings.
+    // What a call leaves of the lists for handles and findings: counted here, not asked of the library that is audited.
     fn after(self, call: Call) -> Replayed<'a, 'w> {
         let (handles, found) = match call {
             Call::Lay(span) => (span.of(self.lines).len(), 0),
