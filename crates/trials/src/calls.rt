@@ -88,7 +88,7 @@ impl<'a, G: Algebra> Audit<'a, G> {
         };
         match self.wanted_finding(x, y) {
             Ok(finding) => {
-                self.record.findings.add(1);
+                self.score.counts.findings.add(1);
                 Ok(checked.finding == finding)
             }
             Err(NoSignal::Refused(_)) => Ok(false),
@@ -142,7 +142,7 @@ impl<'a, G: Algebra> Audit<'a, G> {
     ) -> Result<bool, AllocError> {
         let mut left = replayed;
         for (call, told) in replayed.calls.iter().zip(replayed.told.iter()) {
-            self.record.calls.add(1);
+            self.score.counts.calls.add(1);
             if !self.is_call_right(left, *call, *told)? {
                 return Ok(false);
             }

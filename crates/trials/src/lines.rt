@@ -73,7 +73,7 @@ impl<'a, G: Algebra> Audit<'a, G> {
         refused: Option<LineRefusal>,
     ) -> Result<bool, AllocError> {
         for ((number, line), handle) in netlist.lines.iter().enumerate().zip(handles.iter()) {
-            self.record.lines.add(1);
+            self.score.counts.lines.add(1);
             let answer = match refused {
                 Some(refusal) if refusal.line == number => Err(refusal.fault),
                 _ => Ok(*handle),
@@ -101,7 +101,7 @@ impl<'a, G: Algebra> Audit<'a, G> {
         told: Result<(), LayFault>,
     ) -> Result<bool, AllocError> {
         if let Err(due) = self.check_lay(lines, handles) {
-            self.record.refuse(due.number())?;
+            self.score.refuse(due.number())?;
             return Ok(told == Err(due));
         }
         let refused = match told {
@@ -146,7 +146,7 @@ impl<'a, G: Algebra> Audit<'a, G> {
             .zip(found.iter().zip(tried.iter()))
             .enumerate()
         {
-            self.record.pairs.add(1);
+            self.score.counts.pairs.add(1);
             let grades = self.joined(Op::Grade, left, right)?;
             let answer = match refused {
                 Some(refusal) if refusal.pair == pair => Err(LineReason::Table(refusal.fault)),
@@ -158,7 +158,7 @@ impl<'a, G: Algebra> Audit<'a, G> {
             if answer.is_err() {
                 return Ok(true);
             }
-            self.record.findings.add(1);
+            self.score.counts.findings.add(1);
             if row.finding != *finding {
                 return Ok(false);
             }
@@ -178,7 +178,7 @@ impl<'a, G: Algebra> Audit<'a, G> {
         let pairs = match self.check_compare(first, second, handles, found) {
             Ok(pairs) => pairs,
             Err(due) => {
-                self.record.refuse(due.number())?;
+                self.score.refuse(due.number())?;
                 return Ok(told == Err(due));
             }
         };
