@@ -1,5 +1,6 @@
+use crate::codes::{S, X, Z};
 use crate::desk::Desk;
-use crate::told::{Found, Refused};
+use crate::told::{PrintedFinding, Refused};
 use algebra::{Algebra, FiveValued, TwoValued};
 use comparison::{Checked, compare};
 use diagram::{Memo, NoMemo, RowMemo};
@@ -31,6 +32,7 @@ impl fmt::Display for Tally {
     }
 }
 
+// A line of a kind. Each program that makes lines has this for itself: in a library it would need a contract.
 fn line(kind: Kind, first: u32, second: u32) -> Line {
     Line {
         kind: u8::from(kind),
@@ -77,8 +79,8 @@ pub(crate) fn values_beside_evaluator(rt: &HostRuntime) -> anyhow::Result<()> {
         line(Kind::Input, 0, 0),
         line(Kind::Input, 1, 0),
         line(Kind::Input, 2, 0),
-        line(Kind::Const, 2, 0),
-        line(Kind::Const, 4, 0),
+        line(Kind::Const, X, 0),
+        line(Kind::Const, S, 0),
         line(Kind::IfAnd, 1, 3),
         line(Kind::Not, 1, 0),
         line(Kind::IfAnd, 6, 4),
@@ -92,7 +94,7 @@ pub(crate) fn values_beside_evaluator(rt: &HostRuntime) -> anyhow::Result<()> {
     let tally = tally_netlist(rt, FiveValued, 64, 3, &three_parts)?;
     println!(rt; "the sample beside the evaluator: {tally}")?;
     let floating = [
-        line(Kind::Const, 3, 0),
+        line(Kind::Const, Z, 0),
         line(Kind::Not, 0, 0),
         line(Kind::Not, 1, 0),
         line(Kind::Input, 0, 0),
@@ -134,7 +136,7 @@ pub(crate) fn findings_beside_evaluator(rt: &HostRuntime) -> anyhow::Result<()> 
     let bus = [
         line(Kind::Input, 0, 0),
         line(Kind::Input, 1, 0),
-        line(Kind::Const, 3, 0),
+        line(Kind::Const, Z, 0),
         line(Kind::IfAnd, 0, 1),
         line(Kind::Not, 0, 0),
         line(Kind::IfAnd, 4, 2),
@@ -155,11 +157,11 @@ pub(crate) fn findings_beside_evaluator(rt: &HostRuntime) -> anyhow::Result<()> 
     compare_by_patterns(&FiveValued, 2, &bus, &gates, &mut values, &mut found).map_err(
         Refused::CompareByPatterns,
     )?;
-    println!(rt; "a bus by a table with a memo: {}", Found(kept))?;
+    println!(rt; "a bus by a table with a memo: {}", PrintedFinding(kept))?;
     println!(rt;
         "a bus by a table with a memo that keeps none: {}",
-        Found(forgotten)
+        PrintedFinding(forgotten)
     )?;
-    println!(rt; "a bus by the evaluator: {}", Found(found[0]))?;
+    println!(rt; "a bus by the evaluator: {}", PrintedFinding(found[0]))?;
     Ok(())
 }

@@ -1,16 +1,10 @@
+use crate::codes::{S, X, Z};
 use crate::desk::Desk;
-use crate::told::{Found, Refused, Told};
+use crate::told::{PrintedFinding, PrintedHandle, Refused};
 use algebra::{FiveValued, Op, TwoValued};
-use comparison::{Call, Told as Answer, replay};
+use comparison::{Call, Told, replay};
 use diagram::{Memo, NoMemo, Row, RowMemo, Table};
 use netlist::Finding;
-
-// The codes of the values that are no bits.
-const X: u32 = 2;
-
-const Z: u32 = 3;
-
-const S: u32 = 4;
 
 // Two values and two places: both inputs fill them, so their AND is told full; an input AND its NOT still is 0.
 pub(crate) fn two_places(rt: &HostRuntime) -> anyhow::Result<()> {
@@ -23,15 +17,15 @@ pub(crate) fn two_places(rt: &HostRuntime) -> anyhow::Result<()> {
     let never = desk.join(Op::And, a, not_a);
     let used = desk.table.used();
     println!(rt; "two places: handle {a} and handle {b}")?;
-    println!(rt; "AND of both: {}", Told(both))?;
+    println!(rt; "AND of both: {}", PrintedHandle(both))?;
     println!(rt;
         "an input AND its NOT: {}, {used} places in use",
-        Told(never)
+        PrintedHandle(never)
     )?;
     Ok(())
 }
 
-// The same as a list of calls. Place p has handle 16 + 2p, and its NOT the number after it.
+// The case of two values and two places as a list of calls. Place p has handle 16 + 2p, and its NOT the number after it.
 pub(crate) fn two_places_replayed(rt: &HostRuntime) -> anyhow::Result<()> {
     let and = u8::from(Op::And);
     let calls = [
@@ -45,7 +39,7 @@ pub(crate) fn two_places_replayed(rt: &HostRuntime) -> anyhow::Result<()> {
     let mut table = Table::new(rt.alloc(), 2)?;
     let mut memo = RowMemo::new(rt.alloc(), 8)?;
     let mut rows = [Row::default(); 3];
-    let mut told = [Answer::Handle(Ok(0)); 6];
+    let mut told = [Told::Handle(Ok(0)); 6];
     replay(
         &mut table,
         &TwoValued,
@@ -60,8 +54,11 @@ pub(crate) fn two_places_replayed(rt: &HostRuntime) -> anyhow::Result<()> {
     )
     .map_err(Refused::Replay)?;
     for answer in told {
-        if let Answer::Handle(handle) = answer {
-            println!(rt; "replayed: {}", Told(handle.map_err(Refused::Table)))?;
+        if let Told::Handle(handle) = answer {
+            println!(rt;
+                "replayed: {}",
+                PrintedHandle(handle.map_err(Refused::Table))
+            )?;
         }
     }
     Ok(())
@@ -92,7 +89,10 @@ pub(crate) fn three_parts(rt: &HostRuntime) -> anyhow::Result<()> {
     let before = desk.table.used();
     let turned = desk.turn(sample);
     let after = desk.table.used();
-    println!(rt; "the sample: handle {sample}, its NOT: {}", Told(turned))?;
+    println!(rt;
+        "the sample: handle {sample}, its NOT: {}",
+        PrintedHandle(turned)
+    )?;
     println!(rt; "places in use before the NOT and after: {before} and {after}")?;
     Ok(())
 }
@@ -131,7 +131,10 @@ fn bus_finding<M: Memo + Drop>(rt: &HostRuntime, memo: M) -> anyhow::Result<Find
 pub(crate) fn memos_agree(rt: &HostRuntime) -> anyhow::Result<()> {
     let kept = bus_finding(rt, RowMemo::new(rt.alloc(), 8)?)?;
     let forgotten = bus_finding(rt, NoMemo)?;
-    println!(rt; "with a memo of 256 rows: {}", Found(kept))?;
-    println!(rt; "with a memo that keeps none: {}", Found(forgotten))?;
+    println!(rt; "with a memo of 256 rows: {}", PrintedFinding(kept))?;
+    println!(rt;
+        "with a memo that keeps none: {}",
+        PrintedFinding(forgotten)
+    )?;
     Ok(())
 }

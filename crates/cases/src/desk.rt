@@ -35,52 +35,51 @@ impl<G: Algebra + Drop, M: Memo + Drop> Desk<G, M> {
     }
 
     pub(crate) fn input(&mut self, input: u8) -> Result<u32, Refused> {
-        let told = self.table.input(&self.algebra, &mut self.memo, input);
-        told.map_err(Refused::Table)
+        Ok(self.table.input(&self.algebra, &mut self.memo, input)?)
     }
 
     pub(crate) fn turn(&mut self, x: u32) -> Result<u32, Refused> {
-        let told = self
-            .table
-            .turn(&self.algebra, &mut self.memo, &mut self.rows, x);
-        told.map_err(Refused::Table)
+        Ok(
+            self.table
+                .turn(&self.algebra, &mut self.memo, &mut self.rows, x)?,
+        )
     }
 
     pub(crate) fn join(&mut self, op: Op, x: u32, y: u32) -> Result<u32, Refused> {
-        let told = self.table.join(
-            &self.algebra,
-            &mut self.memo,
-            &mut self.rows,
-            u8::from(op),
-            x,
-            y,
-        );
-        told.map_err(Refused::Table)
+        Ok(
+            self.table.join(
+                &self.algebra,
+                &mut self.memo,
+                &mut self.rows,
+                u8::from(op),
+                x,
+                y,
+            )?,
+        )
     }
 
     pub(crate) fn check(&mut self, x: u32, y: u32) -> Result<Checked, Refused> {
-        let told = check(
+        Ok(check(
             &mut self.table,
             &self.algebra,
             &mut self.memo,
             &mut self.rows,
             x,
             y,
-        );
-        told.map_err(Refused::Table)
+        )?)
     }
 
     // Lays a netlist, whose lines' handles go into a list.
     pub(crate) fn lay(&mut self, lines: &[Line], handles: &mut [u32]) -> Result<(), Refused> {
-        let told = lay(
+        lay(
             &mut self.table,
             &self.algebra,
             &mut self.memo,
             &mut self.rows,
             lines,
             handles,
-        );
-        told.map_err(Refused::Lay)
+        )?;
+        Ok(())
     }
 
     // IF `when` THEN `then` ELSE `other`, by two gates of IFAND under an IFOR.

@@ -3,6 +3,7 @@
 
 mod beside;
 mod cases;
+mod codes;
 mod desk;
 mod told;
 

@@ -15,6 +15,18 @@ pub enum Refused {
     CompareByPatterns(ComparisonFault),
 }
 
+impl From<TableFault> for Refused {
+    fn from(fault: TableFault) -> Refused {
+        Refused::Table(fault)
+    }
+}
+
+impl From<LayFault> for Refused {
+    fn from(fault: LayFault) -> Refused {
+        Refused::Lay(fault)
+    }
+}
+
 impl Refused {
     fn number(self) -> u8 {
         match self {
@@ -36,11 +48,11 @@ impl fmt::Display for Refused {
 
 impl Error for Refused {}
 
-// What a call was told, as a person reads it.
+// The handle that a call was told, or the refusal, as a person reads it.
 #[derive(Clone, Copy)]
-pub struct Told(pub Result<u32, Refused>);
+pub struct PrintedHandle(pub Result<u32, Refused>);
 
-impl fmt::Display for Told {
+impl fmt::Display for PrintedHandle {
     fn fmt<W: fmt::Write>(&self, f: &mut fmt::Formatter<W>) -> fmt::Result {
         match self.0 {
             Ok(handle) => write!(f, "handle {handle}"),
@@ -51,9 +63,9 @@ impl fmt::Display for Told {
 
 // A finding, as a person reads it.
 #[derive(Clone, Copy)]
-pub struct Found(pub Finding);
+pub struct PrintedFinding(pub Finding);
 
-impl fmt::Display for Found {
+impl fmt::Display for PrintedFinding {
     fn fmt<W: fmt::Write>(&self, f: &mut fmt::Formatter<W>) -> fmt::Result {
         match self.0 {
             Finding::Clean => write!(f, "clean"),

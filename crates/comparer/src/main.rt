@@ -18,7 +18,7 @@ mod tests {
     use super::*;
     use std::test::Fail;
 
-    // An input, and what is printed for it.
+    // An input, and what is printed for it. `patterns` is tested by cases of this shape with answers of its own.
     struct Case {
         input: &'static [u8],
         printed: &'static [u8],
@@ -85,7 +85,7 @@ mod tests {
                 return Err(Fail::new("refused"));
             };
             assert!(rt; end <= out.len());
-            assert!(rt; &out[0..end] == case.printed);
+            assert!(rt; &out[..end] == case.printed);
         }
         // fewer bytes are refused
         let mut short = vec![in rt.alloc(); 0u8; 39_999]?;

@@ -1,7 +1,7 @@
 // Holding what calls on a table were told to the evaluator's signals.
 use crate::book::Book;
 use crate::parts::missing_parts;
-use crate::record::Record;
+use crate::score::Score;
 use crate::signals::{Signal, joined, patterns, signals_of, turned};
 use algebra::{Algebra, Op};
 use comparison::LineReason;
@@ -10,7 +10,7 @@ use netlist::{Line, Pattern};
 use std::alloc::{AllocError, Global};
 
 // The least handle that is no constant.
-const FIRST_PLACE: u32 = 16;
+pub(crate) const FIRST_PLACE: u32 = 16;
 
 // What a call, a line or a pair was told.
 pub(crate) type Answer = Result<u32, LineReason>;
@@ -63,7 +63,7 @@ pub(crate) struct Outcome {
 // The audit of the calls on one table, in their order.
 #[derive(Drop)]
 pub(crate) struct Audit<'a, G> {
-    pub record: &'a mut Record,
+    pub score: &'a mut Score,
     pub table: &'a Table,
     pub algebra: &'a G,
     pub heap: Global,
@@ -74,17 +74,17 @@ pub(crate) struct Audit<'a, G> {
 
 impl<'a, G: Algebra> Audit<'a, G> {
     pub(crate) fn new(
-        record: &'a mut Record,
+        score: &'a mut Score,
         table: &'a Table,
         algebra: &'a G,
         heap: Global,
         setting: Setting,
     ) -> Result<Audit<'a, G>, AllocError> {
         let patterns = patterns(heap, setting.inputs)?;
-        record.tables.add(1);
-        record.patterns.add(patterns.len());
+        score.counts.tables.add(1);
+        score.counts.patterns.add(patterns.len());
         Ok(Audit {
-            record,
+            score,
             table,
             algebra,
             heap,
@@ -192,7 +192,7 @@ impl<'a, G: Algebra> Audit<'a, G> {
         answer: Answer,
     ) -> Result<bool, AllocError> {
         if let Err(told) = answer {
-            self.record.refuse(told.number())?;
+            self.score.refuse(told.number())?;
         }
         Ok(answer == Err(due))
     }
@@ -206,7 +206,7 @@ impl<'a, G: Algebra> Audit<'a, G> {
         answer: Answer,
     ) -> Result<bool, AllocError> {
         if let Some(booked) = self.book.handle(signal) {
-            self.record.values.add(signal.len());
+            self.score.counts.values.add(signal.len());
             return Ok(answer == Ok(booked) && self.has_values(booked, signal));
         }
         let parts = missing_parts(self.heap, self.algebra, self.book.parts(), signal)?;
@@ -216,7 +216,7 @@ impl<'a, G: Algebra> Audit<'a, G> {
         let Ok(handle) = answer else {
             return Ok(false);
         };
-        self.record.values.add(signal.len());
+        self.score.counts.values.add(signal.len());
         Ok(self.has_values(handle, signal) && self.book.enter(handle, signal, parts)?)
     }
 

@@ -18,9 +18,8 @@ pub(crate) struct Replayed<'a, 'w> {
 }
 
 // A list without its first entries.
-fn past<T>(list: &[T], count: usize) -> &[T] {
-    let (_, rest) = list.split_at(count.min(list.len()));
-    rest
+pub(crate) fn past<T>(list: &[T], count: usize) -> &[T] {
+    &list[count.min(list.len())..]
 }
 
 fn answer(told: Result<u32, TableFault>) -> Answer {
@@ -28,7 +27,7 @@ fn answer(told: Result<u32, TableFault>) -> Answer {
 }
 
 impl<'a, 'w> Replayed<'a, 'w> {
-    // What a call leaves of the lists for handles and findings.
+    // What a call leaves of the lists for handles and findings: counted here, not asked of the library that is audited.
     fn after(self, call: Call) -> Replayed<'a, 'w> {
         let (handles, found) = match call {
             Call::Lay(span) => (span.of(self.lines).len(), 0),
@@ -89,7 +88,7 @@ impl<'a, G: Algebra> Audit<'a, G> {
         };
         match self.wanted_finding(x, y) {
             Ok(finding) => {
-                self.record.findings.add(1);
+                self.score.counts.findings.add(1);
                 Ok(checked.finding == finding)
             }
             Err(NoSignal::Refused(_)) => Ok(false),
@@ -143,7 +142,7 @@ impl<'a, G: Algebra> Audit<'a, G> {
     ) -> Result<bool, AllocError> {
         let mut left = replayed;
         for (call, told) in replayed.calls.iter().zip(replayed.told.iter()) {
-            self.record.calls.add(1);
+            self.score.counts.calls.add(1);
             if !self.is_call_right(left, *call, *told)? {
                 return Ok(false);
             }

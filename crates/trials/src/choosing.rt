@@ -1,10 +1,17 @@
 // Choosing calls: mostly with handles that were answered, at times with any others.
 ghost use Rattle.std.specs.Prelude.{◌<◌, ◌≤◌};
 
+use crate::audit::FIRST_PLACE;
 use crate::making::{Maker, count_of};
 use algebra::Op;
 use comparison::{Call, Span};
 use std::alloc::AllocError;
+
+// The operators of netlists; GRADE is chosen apart.
+const OPERATORS: [Op; 5] = [Op::And, Op::Or, Op::IfAnd, Op::IfOr, Op::Wire];
+
+// Numbers up to this are tried as operators: all that there are, and some that are none.
+const MOST_NUMBER: u8 = 11;
 
 // What calls are chosen from: the handles that were answered, and a list of two netlists, the second from `middle` on.
 #[derive(Drop)]
@@ -44,7 +51,7 @@ impl<'d, 'a> Chooser<'d, 'a> {
     fn any_handle(&mut self) -> u32 {
         match self.below(40) {
             0 => self.below(20),
-            1 => self.below(64) + 16,
+            1 => self.below(64) + FIRST_PLACE,
             2 => u32::MAX,
             3..=5 => self.answered() ^ 1,
             6..=11 => self.maker.any_code(),
@@ -55,9 +62,9 @@ impl<'d, 'a> Chooser<'d, 'a> {
     // The number of an operator, and at times any number.
     fn any_operator(&mut self) -> u8 {
         match self.below(16) {
-            0 => self.up_to(11),
+            0 => self.up_to(MOST_NUMBER),
             1 => u8::from(Op::Grade),
-            _ => self.up_to(4) + 3,
+            _ => u8::from(OPERATORS[usize::from(self.up_to(4))]),
         }
     }
 

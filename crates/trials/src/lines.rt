@@ -1,14 +1,13 @@
 // Holding what lay and compare were told to the evaluator's signals, line by line and pair by pair.
 use crate::audit::Audit;
+use crate::calls::past;
 use crate::signals::Signal;
 use algebra::{Algebra, Op};
 use comparison::{Checked, CompareFault, LayFault, LineReason, LineRefusal, PairRefusal};
 use diagram::TableFault;
 use evaluation::compare_by_patterns;
-use netlist::{Finding, Line, check_line, count_outs};
+use netlist::{Finding, Line, check_line, count_outs, count_pairs};
 use std::alloc::{AllocError, Global};
-
-const NO_HANDLES: [u32; 0] = [];
 
 // A netlist, with the signals of its lines.
 #[derive(Drop)]
@@ -30,7 +29,7 @@ impl<'a> Netlist<'a> {
 }
 
 impl<'a, G: Algebra> Audit<'a, G> {
-    // The refusal that is due where there are too few work rows.
+    // The refusal that is due where there are too few work rows, from what the table was made with alone.
     pub(crate) fn check_rows(&self) -> Result<(), TableFault> {
         if self.setting.rows > usize::from(self.setting.inputs) {
             Ok(())
@@ -47,24 +46,17 @@ impl<'a, G: Algebra> Audit<'a, G> {
         self.check_rows().map_err(LayFault::Table)
     }
 
-    // The refusal of a compare that is due before its first line.
+    // The refusal of a compare that is due before its first line, or the number of pairs.
     fn check_compare(
         &self,
         first: &[Line],
         second: &[Line],
         handles: &[u32],
         found: &[Checked],
-    ) -> Result<(), CompareFault> {
-        if handles.len() < first.len().saturating_add(second.len()) {
-            return Err(CompareFault::ShortList);
-        }
-        if found.len() < count_outs(first) {
-            return Err(CompareFault::FewFindings);
-        }
-        if count_outs(first) != count_outs(second) {
-            return Err(CompareFault::OutCounts);
-        }
-        self.check_rows().map_err(CompareFault::Table)
+    ) -> Result<usize, CompareFault> {
+        let pairs = count_pairs(first, second, handles.len(), found.len())?;
+        self.check_rows().map_err(CompareFault::Table)?;
+        Ok(pairs)
     }
 
     // A netlist with the signals of its lines, up to the first that is refused.
@@ -81,7 +73,7 @@ impl<'a, G: Algebra> Audit<'a, G> {
         refused: Option<LineRefusal>,
     ) -> Result<bool, AllocError> {
         for ((number, line), handle) in netlist.lines.iter().enumerate().zip(handles.iter()) {
-            self.record.lines.add(1);
+            self.score.counts.lines.add(1);
             let answer = match refused {
                 Some(refusal) if refusal.line == number => Err(refusal.fault),
                 _ => Ok(*handle),
@@ -109,7 +101,7 @@ impl<'a, G: Algebra> Audit<'a, G> {
         told: Result<(), LayFault>,
     ) -> Result<bool, AllocError> {
         if let Err(due) = self.check_lay(lines, handles) {
-            self.record.refuse(due.number())?;
+            self.score.refuse(due.number())?;
             return Ok(told == Err(due));
         }
         let refused = match told {
@@ -154,7 +146,7 @@ impl<'a, G: Algebra> Audit<'a, G> {
             .zip(found.iter().zip(tried.iter()))
             .enumerate()
         {
-            self.record.pairs.add(1);
+            self.score.counts.pairs.add(1);
             let grades = self.joined(Op::Grade, left, right)?;
             let answer = match refused {
                 Some(refusal) if refusal.pair == pair => Err(LineReason::Table(refusal.fault)),
@@ -166,7 +158,7 @@ impl<'a, G: Algebra> Audit<'a, G> {
             if answer.is_err() {
                 return Ok(true);
             }
-            self.record.findings.add(1);
+            self.score.counts.findings.add(1);
             if row.finding != *finding {
                 return Ok(false);
             }
@@ -183,28 +175,32 @@ impl<'a, G: Algebra> Audit<'a, G> {
         found: &[Checked],
         told: Result<usize, CompareFault>,
     ) -> Result<bool, AllocError> {
-        if let Err(due) = self.check_compare(first, second, handles, found) {
-            self.record.refuse(due.number())?;
-            return Ok(told == Err(due));
-        }
-        let (in_first, in_second, pair) = match told {
-            Ok(pairs) if pairs == count_outs(first) => (None, None, None),
-            Err(CompareFault::First(LayFault::Line(refusal))) => (Some(refusal), None, None),
-            Err(CompareFault::Second(LayFault::Line(refusal))) => (None, Some(refusal), None),
-            Err(CompareFault::Pair(refusal)) => (None, None, Some(refusal)),
-            _ => return Ok(false),
+        let pairs = match self.check_compare(first, second, handles, found) {
+            Ok(pairs) => pairs,
+            Err(due) => {
+                self.score.refuse(due.number())?;
+                return Ok(told == Err(due));
+            }
         };
         let first = self.netlist(first)?;
+        if let Err(CompareFault::First(LayFault::Line(refusal))) = told {
+            return self.are_lines_right(&first, handles, Some(refusal));
+        }
         let second = self.netlist(second)?;
-        let right = self.are_lines_right(&first, handles, in_first)?;
-        if !right || in_first.is_some() {
-            return Ok(right);
+        let rest = past(handles, first.lines.len());
+        let first_right = self.are_lines_right(&first, handles, None)?;
+        if let Err(CompareFault::Second(LayFault::Line(refusal))) = told {
+            return Ok(first_right && self.are_lines_right(&second, rest, Some(refusal))?);
         }
-        let rest = handles.get(first.lines.len()..).unwrap_or(&NO_HANDLES);
-        let right = self.are_lines_right(&second, rest, in_second)?;
-        if !right || in_second.is_some() {
-            return Ok(right);
+        if !first_right || !self.are_lines_right(&second, rest, None)? {
+            return Ok(false);
         }
-        self.are_pairs_right(&first, &second, found, pair)
+        match told {
+            Ok(count) if count == pairs => self.are_pairs_right(&first, &second, found, None),
+            Err(CompareFault::Pair(refusal)) => {
+                self.are_pairs_right(&first, &second, found, Some(refusal))
+            }
+            _ => Ok(false),
+        }
     }
 }

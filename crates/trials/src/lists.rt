@@ -4,7 +4,7 @@ use crate::audit::{Outcome, Setting};
 use crate::calls::Replayed;
 use crate::choosing::Chooser;
 use crate::making::count_of;
-use crate::printing::{Calls, Netlist};
+use crate::printing::{PrintedCalls, PrintedLines};
 use crate::trial::{Trial, UNANSWERED, UNCHECKED};
 use algebra::Algebra;
 use comparison::{Call, Checked, ReplayFault, Told, replay_apart};
@@ -72,9 +72,9 @@ impl Lent {
     }
 }
 
-// Two netlists in one list, the second one from `middle` on.
+// Two netlists in one list, as a replay takes its lines, the second one from `middle` on.
 #[derive(Drop)]
-struct Netlists {
+struct JoinedLines {
     lines: Vec<Line>,
     middle: u32,
 }
@@ -110,13 +110,13 @@ impl<'a, G: Algebra, M: Memo> Trial<'a, G, M> {
         }
     }
 
-    fn any_lines(&mut self, inputs: u8) -> Result<Netlists, AllocError> {
+    fn any_lines(&mut self, inputs: u8) -> Result<JoinedLines, AllocError> {
         let mut maker = self.maker(inputs);
         let (mut lines, mut second) = maker.any_two(12)?;
         maker.spoil_one_in(4, &mut second);
         let middle = count_of(&lines);
         lines.extend_from_slice(&second)?;
-        Ok(Netlists { lines, middle })
+        Ok(JoinedLines { lines, middle })
     }
 
     // Replays a list on a table.
@@ -176,7 +176,7 @@ impl<'a, G: Algebra, M: Memo> Trial<'a, G, M> {
         let mut lent = Lent::new(self.heap, plan, told)?;
         let answer = self.replay(&mut table, MOST_INPUTS + 1, &[], calls, &mut lent);
         if let Err(fault) = answer {
-            self.record.refuse(fault.number())?;
+            self.score.refuse(fault.number())?;
         }
         Ok(answer == Err(due))
     }
@@ -193,7 +193,7 @@ impl<'a, G: Algebra, M: Memo> Trial<'a, G, M> {
     fn try_rounds(
         &mut self,
         plan: Plan,
-        netlists: &Netlists,
+        joined: &JoinedLines,
         calls: &mut Vec<Call>,
     ) -> Result<Outcome, AllocError> {
         let mut handles = Vec::new(self.heap);
@@ -205,11 +205,11 @@ impl<'a, G: Algebra, M: Memo> Trial<'a, G, M> {
             let mut chooser = Chooser {
                 maker: self.maker(plan.setting.inputs),
                 handles: &handles,
-                middle: netlists.middle,
-                end: count_of(&netlists.lines),
+                middle: joined.middle,
+                end: count_of(&joined.lines),
             };
             chooser.add_calls(calls)?;
-            let (lent, outcome) = self.try_calls(plan, &netlists.lines, calls)?;
+            let (lent, outcome) = self.try_calls(plan, &joined.lines, calls)?;
             last = Outcome {
                 right: last.right && outcome.right,
                 places: outcome.places,
@@ -240,24 +240,24 @@ impl<'a, G: Algebra, M: Memo> Trial<'a, G, M> {
     // Makes a list of calls, and replays it as it grows, on smaller tables, and where it is refused as a whole.
     pub(crate) fn try_list(&mut self) -> anyhow::Result<()> {
         let plan = self.any_plan();
-        let netlists = self.any_lines(plan.setting.inputs)?;
-        let lines = netlists.lines.as_slice();
+        let joined = self.any_lines(plan.setting.inputs)?;
+        let lines = joined.lines.as_slice();
         let mut calls = Vec::new(self.heap);
-        self.record.lists.add(1);
+        self.score.counts.lists.add(1);
         let Outcome {
             right: grown,
             places,
-        } = self.try_rounds(plan, &netlists, &mut calls)?;
+        } = self.try_rounds(plan, &joined, &mut calls)?;
         let fitted = self.try_rooms(plan, places, lines, &calls)?;
         let refused = self.try_refused(plan, &calls)?;
         if !grown || !fitted || !refused {
-            self.record.different.add(1);
+            self.score.counts.different.add(1);
             println!(self.rt;
                 "right as it grew: {grown}, on smaller tables: {fitted}, refused: {refused}"
             )?;
             println!(self.rt; "{plan}")?;
-            println!(self.rt; "{}", Netlist(lines))?;
-            println!(self.rt; "{}", Calls(&calls))?;
+            println!(self.rt; "{}", PrintedLines(lines))?;
+            println!(self.rt; "{}", PrintedCalls(&calls))?;
         }
         Ok(())
     }

@@ -13,14 +13,14 @@ mod making;
 mod netlists;
 mod parts;
 mod printing;
-mod record;
+mod score;
 mod signals;
 mod trial;
 
 use algebra::{Algebra, FiveValued, TwoValued};
 use diagram::{NoMemo, RowMemo};
 use dice::Dice;
-use record::Record;
+use score::Score;
 use trial::Trial;
 
 const SEED: u64 = 20_240_229;
@@ -38,28 +38,28 @@ fn memo_bits(turn: u32) -> u8 {
 // Tries the netlists and the lists of one algebra, by turns with a memo of some rows and one that keeps none.
 fn try_algebra<G: Algebra>(
     rt: &HostRuntime,
-    record: &mut Record,
+    score: &mut Score,
     dice: &mut Dice,
     algebra: &G,
 ) -> anyhow::Result<()> {
     for turn in 0..NETLISTS {
         let mut memo = RowMemo::new(rt.alloc(), memo_bits(turn))?;
-        Trial::new(rt, record, dice, algebra, &mut memo).try_netlists()?;
-        Trial::new(rt, record, dice, algebra, &mut NoMemo).try_netlists()?;
+        Trial::new(rt, score, dice, algebra, &mut memo).try_netlists()?;
+        Trial::new(rt, score, dice, algebra, &mut NoMemo).try_netlists()?;
     }
     for turn in 0..LISTS {
         let mut memo = RowMemo::new(rt.alloc(), memo_bits(turn))?;
-        Trial::new(rt, record, dice, algebra, &mut memo).try_list()?;
-        Trial::new(rt, record, dice, algebra, &mut NoMemo).try_list()?;
+        Trial::new(rt, score, dice, algebra, &mut memo).try_list()?;
+        Trial::new(rt, score, dice, algebra, &mut NoMemo).try_list()?;
     }
     Ok(())
 }
 
 fn main(rt: HostRuntime) -> anyhow::Result<()> {
-    let mut record = Record::new(rt.alloc());
+    let mut score = Score::new(rt.alloc());
     let mut dice = Dice::new(SEED);
-    try_algebra(&rt, &mut record, &mut dice, &FiveValued)?;
-    try_algebra(&rt, &mut record, &mut dice, &TwoValued)?;
-    println!(rt; "{record}")?;
+    try_algebra(&rt, &mut score, &mut dice, &FiveValued)?;
+    try_algebra(&rt, &mut score, &mut dice, &TwoValued)?;
+    println!(rt; "{score}")?;
     Ok(())
 }

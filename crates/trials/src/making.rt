@@ -7,6 +7,9 @@ use std::alloc::{AllocError, Global};
 // The code of Z.
 const FLOATING: u32 = 3;
 
+// A number that no kind of line has.
+const NO_KIND: u8 = 9;
+
 // What lines are made for.
 #[derive(Clone, Copy)]
 pub(crate) struct Frame {
@@ -39,6 +42,7 @@ pub(crate) fn count_of<T>(list: &[T]) -> u32 {
     u32::try_from(list.len()).unwrap_or(u32::MAX)
 }
 
+// A line of a kind. Each program that makes lines has this for itself: in a library it would need a contract.
 fn line(kind: Kind, first: u32, second: u32) -> Line {
     Line {
         kind: u8::from(kind),
@@ -61,7 +65,7 @@ fn between_nots(line: Line) -> Option<Kind> {
     }
 }
 
-// Where a line of the first netlist stands in the second one.
+// Where a line of the first netlist stands in the second one. Operands name earlier lines, so that each has its place.
 fn moved(places: &[u32], number: u32) -> u32 {
     places.get(number as usize).copied().unwrap_or(0)
 }
@@ -139,7 +143,7 @@ impl<'d> Maker<'d> {
         self.dice.below(count_of(lines))
     }
 
-    // The same netlist with one line changed.
+    // A netlist with one of its lines changed.
     fn changed(&mut self, lines: &[Line]) -> Result<Vec<Line>, AllocError> {
         let mut netlist = lines.to_vec(self.heap)?;
         let place = self.any_place(lines);
@@ -151,19 +155,17 @@ impl<'d> Maker<'d> {
 
     // A line with its operands moved, at times with them exchanged where their order does not matter.
     fn moved_line(&mut self, places: &[u32], line: Line) -> Line {
-        let first = moved(places, line.first);
-        let second = moved(places, line.second);
         match Kind::try_from(line.kind) {
             Ok(Kind::Input | Kind::Const) => line,
             Ok(Kind::And | Kind::Or | Kind::Wire) if self.dice.one_in(2) => Line {
-                kind: line.kind,
-                first: second,
-                second: first,
+                first: moved(places, line.second),
+                second: moved(places, line.first),
+                ..line
             },
             _ => Line {
-                kind: line.kind,
-                first,
-                second,
+                first: moved(places, line.first),
+                second: moved(places, line.second),
+                ..line
             },
         }
     }
@@ -215,9 +217,8 @@ impl<'d> Maker<'d> {
             2 => line(Kind::Not, number, 0),
             3 => line(Kind::IfOr, 0, number),
             _ if self.frame.wired => Line {
-                kind: 9,
-                first: 0,
-                second: 0,
+                kind: NO_KIND,
+                ..Line::default()
             },
             _ => line(Kind::Wire, 0, 0),
         }

@@ -1,6 +1,6 @@
 // Trials of netlists: one is laid, and compared with a second one.
 use crate::audit::{Outcome, Setting};
-use crate::printing::Netlist;
+use crate::printing::PrintedLines;
 use crate::trial::{Trial, UNANSWERED, UNCHECKED};
 use algebra::Algebra;
 use comparison::{compare, lay};
@@ -10,7 +10,7 @@ use std::alloc::AllocError;
 
 // Two netlists on some inputs, in some of which a line is refused.
 #[derive(Drop)]
-struct Netlists {
+struct NetlistPair {
     inputs: u8,
     first: Vec<Line>,
     second: Vec<Line>,
@@ -26,13 +26,13 @@ impl<'a, G: Algebra, M: Memo> Trial<'a, G, M> {
         }
     }
 
-    fn any_pair(&mut self) -> Result<Netlists, AllocError> {
+    fn any_pair(&mut self) -> Result<NetlistPair, AllocError> {
         let inputs = self.any_inputs();
         let mut maker = self.maker(inputs);
         let (mut first, mut second) = maker.any_two(24)?;
         maker.spoil_one_in(16, &mut first);
         maker.spoil_one_in(16, &mut second);
-        Ok(Netlists {
+        Ok(NetlistPair {
             inputs,
             first,
             second,
@@ -40,7 +40,7 @@ impl<'a, G: Algebra, M: Memo> Trial<'a, G, M> {
     }
 
     // Lays the first netlist on a new table. Whether all comes out right.
-    fn try_lay(&mut self, netlists: &Netlists) -> Result<bool, AllocError> {
+    fn try_lay(&mut self, netlists: &NetlistPair) -> Result<bool, AllocError> {
         let setting = Setting::enough(netlists.inputs, self.any_room());
         let lines = netlists.first.as_slice();
         let heap = self.heap;
@@ -62,7 +62,7 @@ impl<'a, G: Algebra, M: Memo> Trial<'a, G, M> {
     }
 
     // Compares the netlists on a new table of so many places.
-    fn try_compare(&mut self, netlists: &Netlists, room: usize) -> Result<Outcome, AllocError> {
+    fn try_compare(&mut self, netlists: &NetlistPair, room: usize) -> Result<Outcome, AllocError> {
         let setting = Setting::enough(netlists.inputs, room);
         let first = netlists.first.as_slice();
         let second = netlists.second.as_slice();
@@ -89,7 +89,7 @@ impl<'a, G: Algebra, M: Memo> Trial<'a, G, M> {
 
     // Compares two netlists on three tables: one of any size, one of as many places as were then in use, and one of a place
     // less. Whether all comes out right.
-    fn try_compares(&mut self, netlists: &Netlists) -> Result<bool, AllocError> {
+    fn try_compares(&mut self, netlists: &NetlistPair) -> Result<bool, AllocError> {
         let room = self.any_room();
         let any = self.try_compare(netlists, room)?;
         let tight = self.try_compare(netlists, any.places)?;
@@ -100,15 +100,15 @@ impl<'a, G: Algebra, M: Memo> Trial<'a, G, M> {
     // Makes two netlists, and lays and compares them.
     pub(crate) fn try_netlists(&mut self) -> anyhow::Result<()> {
         let netlists = self.any_pair()?;
-        self.record.netlists.add(1);
+        self.score.counts.netlists.add(1);
         let laid = self.try_lay(&netlists)?;
         let compared = self.try_compares(&netlists)?;
         if !laid || !compared {
-            self.record.different.add(1);
+            self.score.counts.different.add(1);
             let inputs = netlists.inputs;
             println!(self.rt; "{inputs} inputs, laid right: {laid}, compared right: {compared}")?;
-            println!(self.rt; "{}", Netlist(&netlists.first))?;
-            println!(self.rt; "{}", Netlist(&netlists.second))?;
+            println!(self.rt; "{}", PrintedLines(&netlists.first))?;
+            println!(self.rt; "{}", PrintedLines(&netlists.second))?;
         }
         Ok(())
     }

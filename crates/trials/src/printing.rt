@@ -5,9 +5,9 @@ use std::fmt;
 
 // The lines of a netlist: a row of number, kind and operands for each.
 #[derive(Clone, Copy)]
-pub(crate) struct Netlist<'a>(pub &'a [Line]);
+pub(crate) struct PrintedLines<'a>(pub &'a [Line]);
 
-impl<'a> fmt::Display for Netlist<'a> {
+impl<'a> fmt::Display for PrintedLines<'a> {
     fn fmt<W: fmt::Write>(&self, f: &mut fmt::Formatter<W>) -> fmt::Result {
         write!(f, "netlist:")?;
         for (number, line) in self.0.iter().enumerate() {
@@ -22,22 +22,22 @@ impl<'a> fmt::Display for Netlist<'a> {
 
 // The calls of a list, a row for each.
 #[derive(Clone, Copy)]
-pub(crate) struct Calls<'a>(pub &'a [Call]);
+pub(crate) struct PrintedCalls<'a>(pub &'a [Call]);
 
-impl<'a> fmt::Display for Calls<'a> {
+impl<'a> fmt::Display for PrintedCalls<'a> {
     fn fmt<W: fmt::Write>(&self, f: &mut fmt::Formatter<W>) -> fmt::Result {
         write!(f, "calls:")?;
         for call in self.0 {
-            write!(f, "\n{}", Row(*call))?;
+            write!(f, "\n{}", PrintedCall(*call))?;
         }
         Ok(())
     }
 }
 
 #[derive(Clone, Copy)]
-struct Row(Call);
+struct PrintedCall(Call);
 
-impl fmt::Display for Row {
+impl fmt::Display for PrintedCall {
     fn fmt<W: fmt::Write>(&self, f: &mut fmt::Formatter<W>) -> fmt::Result {
         match self.0 {
             Call::Input(input) => write!(f, "input {input}"),

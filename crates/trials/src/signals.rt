@@ -80,7 +80,8 @@ fn first_of(grade: u8, grades: &[u8], left: &[u8], right: &[u8]) -> Option<Diffe
     })
 }
 
-// The finding of two signals: the gravest of their grades, and the first pattern that has it.
+// The finding of two signals: the gravest of their grades, and the first pattern that has it. Like checking's own, on
+// purpose: from the values alone, so that no table has a part in it.
 pub(crate) fn finding<G: Algebra>(
     algebra: &G,
     grades: &[u8],

@@ -2,7 +2,7 @@
 use crate::audit::{Audit, Setting};
 use crate::dice::Dice;
 use crate::making::{Frame, Maker};
-use crate::record::Record;
+use crate::score::Score;
 use algebra::Algebra;
 use comparison::Checked;
 use diagram::Table;
@@ -15,7 +15,7 @@ const AMPLE: u32 = 4096;
 // What lists of handles hold before a call writes them: a handle that no call answers.
 pub(crate) const UNANSWERED: u32 = u32::MAX;
 
-// The same of rows for findings.
+// What rows for findings hold before a call writes them: the same handle, and no finding.
 pub(crate) const UNCHECKED: Checked = Checked {
     handle: UNANSWERED,
     finding: Finding::Clean,
@@ -26,7 +26,7 @@ pub(crate) const UNCHECKED: Checked = Checked {
 pub(crate) struct Trial<'a, G, M> {
     pub rt: &'a HostRuntime,
     pub heap: Global,
-    pub record: &'a mut Record,
+    pub score: &'a mut Score,
     pub dice: &'a mut Dice,
     pub algebra: &'a G,
     pub memo: &'a mut M,
@@ -35,7 +35,7 @@ pub(crate) struct Trial<'a, G, M> {
 impl<'a, G: Algebra, M> Trial<'a, G, M> {
     pub(crate) fn new(
         rt: &'a HostRuntime,
-        record: &'a mut Record,
+        score: &'a mut Score,
         dice: &'a mut Dice,
         algebra: &'a G,
         memo: &'a mut M,
@@ -43,7 +43,7 @@ impl<'a, G: Algebra, M> Trial<'a, G, M> {
         Trial {
             rt,
             heap: rt.alloc(),
-            record,
+            score,
             dice,
             algebra,
             memo,
@@ -76,7 +76,7 @@ impl<'a, G: Algebra, M> Trial<'a, G, M> {
     ) -> Result<Audit<'t, G>, AllocError> {
         let heap = self.heap;
         let algebra = self.algebra;
-        let record = &mut *self.record;
-        Audit::new(record, table, algebra, heap, setting)
+        let score = &mut *self.score;
+        Audit::new(score, table, algebra, heap, setting)
     }
 }

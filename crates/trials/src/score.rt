@@ -19,8 +19,9 @@ impl fmt::Display for Count {
     }
 }
 
-#[derive(Drop)]
-pub(crate) struct Record {
+// How much of each was tried, and how many trials came out otherwise.
+#[derive(Clone, Copy, Default)]
+pub(crate) struct Counts {
     pub netlists: Count,
     pub lists: Count,
     pub tables: Count,
@@ -31,46 +32,54 @@ pub(crate) struct Record {
     pub values: Count,
     pub findings: Count,
     pub different: Count,
+}
+
+#[derive(Drop)]
+pub(crate) struct Score {
+    pub counts: Counts,
     // how often each number was told as a refusal
     refusals: BTreeMap<u8, Count>,
 }
 
-impl Record {
-    pub(crate) fn new(heap: Global) -> Record {
-        Record {
-            netlists: Count::default(),
-            lists: Count::default(),
-            tables: Count::default(),
-            patterns: Count::default(),
-            lines: Count::default(),
-            pairs: Count::default(),
-            calls: Count::default(),
-            values: Count::default(),
-            findings: Count::default(),
-            different: Count::default(),
+impl Score {
+    pub(crate) fn new(heap: Global) -> Score {
+        Score {
+            counts: Counts::default(),
             refusals: BTreeMap::new(heap),
         }
     }
 
     // Counts a refusal by its number.
     pub(crate) fn refuse(&mut self, number: u8) -> Result<(), AllocError> {
-        let count = self.refusals.entry(number)?.or_insert(Count::default());
-        count.add(1);
+        self.refusals.entry(number)?.or_default().add(1);
         Ok(())
     }
 }
 
-impl fmt::Display for Record {
+impl fmt::Display for Score {
     fn fmt<W: fmt::Write>(&self, f: &mut fmt::Formatter<W>) -> fmt::Result {
-        writeln!(f, "pairs of netlists: {}", self.netlists)?;
-        writeln!(f, "lists of calls: {}, calls: {}", self.lists, self.calls)?;
-        writeln!(f, "lines: {}, pairs of outputs: {}", self.lines, self.pairs)?;
-        writeln!(f, "tables: {}, patterns: {}", self.tables, self.patterns)?;
-        writeln!(f, "values held to the evaluator's: {}", self.values)?;
-        writeln!(f, "findings held to the evaluator's: {}", self.findings)?;
+        let counts = self.counts;
+        writeln!(f, "pairs of netlists: {}", counts.netlists)?;
+        writeln!(
+            f,
+            "lists of calls: {}, calls: {}",
+            counts.lists, counts.calls
+        )?;
+        writeln!(
+            f,
+            "lines: {}, pairs of outputs: {}",
+            counts.lines, counts.pairs
+        )?;
+        writeln!(
+            f,
+            "tables: {}, patterns: {}",
+            counts.tables, counts.patterns
+        )?;
+        writeln!(f, "values held to the evaluator's: {}", counts.values)?;
+        writeln!(f, "findings held to the evaluator's: {}", counts.findings)?;
         for (number, count) in &self.refusals {
             writeln!(f, "refused {number}: {count}")?;
         }
-        write!(f, "different: {}", self.different)
+        write!(f, "different: {}", counts.different)
     }
 }
