@@ -5,7 +5,7 @@ use algebra::{Algebra, Op};
 use comparison::{Checked, CompareFault, LayFault, LineReason, LineRefusal, PairRefusal};
 use diagram::TableFault;
 use evaluation::compare_by_patterns;
-use netlist::{Finding, Line, check_line, count_outs};
+use netlist::{CountFault, Finding, Line, check_line, count_outs};
 use std::alloc::{AllocError, Global};
 
 const NO_HANDLES: [u32; 0] = [];
@@ -56,13 +56,13 @@ impl<'a, G: Algebra> Audit<'a, G> {
         found: &[Checked],
     ) -> Result<(), CompareFault> {
         if handles.len() < first.len().saturating_add(second.len()) {
-            return Err(CompareFault::ShortList);
+            return Err(CompareFault::Counts(CountFault::ShortList));
         }
         if found.len() < count_outs(first) {
-            return Err(CompareFault::FewFindings);
+            return Err(CompareFault::Counts(CountFault::FewFindings));
         }
         if count_outs(first) != count_outs(second) {
-            return Err(CompareFault::OutCounts);
+            return Err(CompareFault::Counts(CountFault::OutCounts));
         }
         self.check_rows().map_err(CompareFault::Table)
     }

@@ -4,11 +4,11 @@ use Rattle.std.proofs.lemmas.List.{length-take-le}
 use Rattle.std.proofs.lemmas.Result.{err_from_is_err_and}
 use Rattle.netlist.specs.Lines.{out_count}
 use Rattle.records.specs.Runs.{Kept}
-use Rattle.faults.specs.Faults.{of_counts}
+use Rattle.faults.specs.declared.fault.CompareFault.TheVariants.{Counts}
 use Rattle.diagram.specs.Views.{view, room}
 use Rattle.records.proofs.Shapes.{well}
 use Rattle.comparison.specs.Compares.{Compared, compare_event}
-use Rattle.comparison.proofs.Comparings.{none_laid, counts_refused, counts_event, begun_refused, begun, rows_event_kept}
+use Rattle.comparison.proofs.Comparings.{none_laid, counts_refused, begun_refused, begun, rows_event_kept}
 use Rattle.comparison.proofs.comparing.compare.Goals as goal
 
 pub returns-in_err-pairs : goal.returns-in_err-pairs
@@ -24,13 +24,13 @@ returns-in_err-pairs g c =
     let cs = c.args.found.now in
     let e = c.in_err-pairs.field-0.0 in
     let x = c.in_err-pairs.ensures in
-    let is : c.from_residual.result ≡ Err (of_counts e) = p.1 ∙ ap Err p.2 in
+    let is : c.from_residual.result ≡ Err (Counts e) = p.1 ∙ ap Err p.2 in
     record {
       compared = subst (λ r. Compared o s s P P (length c.args.rows.now) ls ms hs hs cs cs r) (sym is) (counts_refused o s P (length c.args.rows.now) ls ms hs cs e x);
       room = refl;
       kept = λ run kept.
           subst (λ r. Kept o n (compare_event ls ms hs cs r ∷ run) s P) (sym is)
-          (counts_event o s P (length c.args.rows.now) ls ms hs cs n run e (none_laid g.G.Algebra.laws (well c.args.table.now.well) n P ls ms run kept));
+          (none_laid g.G.Algebra.laws (well c.args.table.now.well) n P ls ms run kept);
     }
 
 pub returns-then-rows-inputs : goal.returns-then-rows-inputs
