@@ -76,8 +76,8 @@ module _ (o : Ops) (n k l : ℕ) (x x' y y' : List Line) (ex : x ≡ x') (ey : y
         → fault_row (comparison_fault_number f) (comparison_fault_netlist f) (comparison_fault_line f) ≡ printed
     fault_printed hn hv hr TooManyInputs r = absurd (omega arith)
     fault_printed hn hv hr (Counts ShortList) r = absurd (let q = r.1 in omega (arith, length-take k x, length-take l y))
-    fault_printed hn hv hr (Counts FewFindings) r = absurd (let q = r.2 in let w = few_outs ls in omega (arith, length-take k x))
-    fault_printed hn hv hr (Counts OutCounts) r = sym (cond-false _ _ _ (ne_eqb (out_count ms) (out_count ls) r.3)) ∙ same
+    fault_printed hn hv hr (Counts FewFindings) r = absurd (let q = r.1.1 in let w = few_outs ls in omega (arith, length-take k x))
+    fault_printed hn hv hr (Counts OutCounts) r = sym (cond-false _ _ _ (ne_eqb (out_count ms) (out_count ls) r.1.2)) ∙ same
     fault_printed hn hv hr (First f) r = sym (cond-true _ _ _ (eq-eqb (out_count ms) (out_count ls) r.3) ∙ ap (λ z. unless_refused 1 z (unless_refused 2 (first_fault o n 0 ms) (cond (ltb 16 n) too_many_inputs (report o n ls ms)))) r.4) ∙ same
     fault_printed hn hv hr (Second f) r =
         sym
