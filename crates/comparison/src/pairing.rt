@@ -59,13 +59,12 @@ pub(crate) fn check_pairs<G: Algebra, M: Memo>(
     // places beside the pair's number: a `for` over a chain of the OUT lines has no invariant in a generic function yet
     let mut from_left = 0;
     let mut from_right = 0;
-    for pair in 0..found.len() {
+    for (pair, row) in found.iter_mut().enumerate() {
         let x = next_out(first, from_left);
         let y = next_out(second, from_right);
-        let checked = check(table, algebra, memo, rows, left[x], right[y]).map_err(
+        *row = check(table, algebra, memo, rows, left[x], right[y]).map_err(
             |fault| PairRefusal { pair, fault },
         )?;
-        found[pair] = checked;
         from_left = x + 1;
         from_right = y + 1;
     }
