@@ -8,7 +8,7 @@ use Rattle.diagram.specs.Views.{view, room}
 use Rattle.records.proofs.Shapes.{well}
 use Rattle.faults.proofs.Lifts.{ok_from_map_err, err_from_map_err}
 use Rattle.comparison.specs.Compares.{pairs_event, PairsChecked}
-use Rattle.comparison.proofs.Pairings.{PairDue, checking_none, out_inside, out_at, checked_more, checked_refused, refused_leaves, all_checked}
+use Rattle.comparison.proofs.Pairings.{PairDue, checking_none, out_due, out_at, checked_more, checked_refused, refused_leaves, all_checked}
 use Rattle.comparison.proofs.pairing.check_pairs.Goals as goal
 
 pub loop-pair-init : goal.loop-pair-init
@@ -16,22 +16,26 @@ loop-pair-init g c =
     (checking_none g.G.Algebra.ops (room c.args.table.now) (view c.args.table.now) (g.M.Memo.recalls c.args.memo.now) c.args.first.now c.args.second.now c.args.left.now c.args.right.now c.args.found.now, refl)
 
 pub next_out-x-requires : goal.next_out-x-requires
-next_out-x-requires g c = c.loop-pair.invariant.0.left_inside
+next_out-x-requires g c =
+    let inv = c.loop-pair.invariant.0 in
+    record {
+      inside = inv.left_inside;
+      due = out_due c.args.first.now c.args.left.now c.requires.left c.loop-pair.pair-counter c.loop-pair.from_left (omega (arith, c.loop-pair-test.true, c.requires.room)) inv.left_rest;
+    }
 
 pub next_out-y-requires : goal.next_out-y-requires
-next_out-y-requires g c = c.loop-pair.invariant.0.right_inside
+next_out-y-requires g c =
+    let inv = c.loop-pair.invariant.0 in
+    record {
+      inside = inv.right_inside;
+      due = out_due c.args.second.now c.args.right.now c.requires.right c.loop-pair.pair-counter c.loop-pair.from_right (omega (arith, c.loop-pair-test.true, c.requires.room, c.requires.even)) inv.right_rest;
+    }
 
 pub bounds-left-x : goal.bounds-left-x
-bounds-left-x g c =
-    let inv = c.loop-pair.invariant.0 in
-    let inside = out_inside c.args.first.now c.args.left.now c.requires.left c.loop-pair.pair-counter c.next_out-x.result (omega (arith, c.loop-pair-test.true, c.requires.room)) (sym (c.next_out-x.ensures.skipped c.args.left.now c.requires.left) ∙ inv.left_rest) in
-    omega (arith, c.requires.left)
+bounds-left-x g c = omega (arith, c.requires.left, c.next_out-x.ensures.within)
 
 pub bounds-right-y : goal.bounds-right-y
-bounds-right-y g c =
-    let inv = c.loop-pair.invariant.0 in
-    let inside = out_inside c.args.second.now c.args.right.now c.requires.right c.loop-pair.pair-counter c.next_out-y.result (omega (arith, c.loop-pair-test.true, c.requires.room, c.requires.even)) (sym (c.next_out-y.ensures.skipped c.args.right.now c.requires.right) ∙ inv.right_rest) in
-    omega (arith, c.requires.right)
+bounds-right-y g c = omega (arith, c.requires.right, c.next_out-y.ensures.within)
 
 pub returns-in_err-row : goal.returns-in_err-row
 returns-in_err-row g c =
