@@ -1,5 +1,5 @@
 // Comparing two netlists by trying every pattern.
-ghost use Rattle.std.specs.Prelude.{◌≡◌, ℕ, ◌+◌, ◌^◌, ◌<◌, ◌≤◌, ◌==◌, not, List, ◌++◌, length, take, drop, take_while, IfOk, Some, None, MatchResult, slice_index_or};
+ghost use Rattle.std.specs.Prelude.{◌≡◌, ℕ, ◌+◌, ◌<◌, ◌≤◌, ◌==◌, not, List, ◌++◌, length, take, drop, take_while, IfOk, None, MatchResult, slice_index_or};
 ghost use Rattle.std.specs.List.{list_any};
 ghost use Rattle.netlist.specs.Signals.{Signal};
 ghost use Rattle.netlist.specs.Lines.{line_signals, outs, out_count};

@@ -1,5 +1,5 @@
 // The evaluator that goes straight from the lines to their values on one pattern.
-ghost use Rattle.std.specs.Prelude.{◌≡◌, ℕ, ◌+◌, ◌<◌, ◌≤◌, List, ◌++◌, length, drop, Some, None, MatchResult};
+ghost use Rattle.std.specs.Prelude.{◌≡◌, ◌+◌, ◌<◌, ◌≤◌, List, ◌++◌, length, drop, None, MatchResult};
 ghost use Rattle.netlist.specs.Signals.{Signal};
 ghost use Rattle.netlist.specs.Lines.{line_signal, line_signals};
 ghost use Rattle.netlist.specs.Faults.{line_fault, first_fault};
