@@ -10,8 +10,6 @@ use Rattle.netlist.specs.Lines.{out_count}
 use Rattle.netlist.specs.Faults.{first_fault}
 use Rattle.netlist.specs.Counts.{Counts, CountsRefused}
 use Rattle.netlist.specs.declared.fault.CountFault.{CountFault}
-use Rattle.netlist.specs.declared.fault.CountFault.TheVariants.{ShortList as NoRoom, FewFindings as NoRows, OutCounts as Uneven}
-use Rattle.faults.specs.Faults.{of_counts}
 use Rattle.records.specs.Stores.{Store}
 use Rattle.records.specs.Rules.{Well}
 use Rattle.memo.specs.Memos.{Pairs}
@@ -23,7 +21,7 @@ use Rattle.records.proofs.Comparing.{kept_laid}
 use Rattle.faults.specs.declared.fault.LayFault.{LayFault}
 use Rattle.faults.specs.declared.fault.LayFault.TheVariants.{ShortList as ShortLines, Table as OfTable, Line as AtLine}
 use Rattle.faults.specs.declared.fault.CompareFault.{CompareFault}
-use Rattle.faults.specs.declared.fault.CompareFault.TheVariants.{ShortList, FewFindings, OutCounts, Table, First, Second, Pair}
+use Rattle.faults.specs.declared.fault.CompareFault.TheVariants.{Counts as Uncounted, Table, First, Second, Pair}
 use Rattle.laying.specs.Lays.{Laid, RefusedLine, lay_answers}
 use Rattle.comparison.specs.Compares.{LineRefused, PartsCompared, parts_event, Unchanged, second_part, Begun, Compared, compare_event}
 use Rattle.checking.specs.declared.checking.Checked.{Checked}
@@ -149,22 +147,12 @@ module _ (o : Ops) (s : Store) (P : Pairs) (rows : ℕ) (ls ms : List Line) (hs 
   abbrev unchanged : Unchanged s s P P hs hs cs cs
   unchanged = record { table = refl; memo = refl; handles = refl; found = refl }
 
-  pub counts_refused : (e : CountFault) → CountsRefused ls ms (length hs) (length cs) e → Compared o s s P P rows ls ms hs hs cs cs (Err (of_counts e))
-  counts_refused NoRoom x = (x, unchanged)
-  counts_refused NoRows x = (x, unchanged)
-  counts_refused Uneven x = (x, unchanged)
-
-  -- no line is told anything
-  pub counts_event : (room : ℕ) (run : Run) (e : CountFault) → Kept o room (compare ls ms [] [] [] [] ∷ run) s P → Kept o room (compare_event ls ms hs cs (Err (of_counts e)) ∷ run) s P
-  counts_event room run NoRoom kept = kept
-  counts_event room run NoRows kept = kept
-  counts_event room run Uneven kept = kept
+  pub counts_refused : (e : CountFault) → CountsRefused ls ms (length hs) (length cs) e → Compared o s s P P rows ls ms hs hs cs cs (Err (Uncounted e))
+  counts_refused e x = (x, unchanged)
 
 pub begun_refused : (o : Ops) (s t : Store) (P Q : Pairs) (rows : ℕ) (ls ms : List Line) (hs hs' : List ℕ) (cs cs' : List Checked) (e : CompareFault)
     → Begun o s t rows ls ms hs hs' cs cs' (Err e) → Compared o s t P Q rows ls ms hs hs' cs cs' (Err e)
-begun_refused o s t P Q rows ls ms hs hs' cs cs' ShortList x = absurd x.parts
-begun_refused o s t P Q rows ls ms hs hs' cs cs' FewFindings x = absurd x.parts
-begun_refused o s t P Q rows ls ms hs hs' cs cs' OutCounts x = absurd x.parts
+begun_refused o s t P Q rows ls ms hs hs' cs cs' (Uncounted f) x = absurd x.parts
 begun_refused o s t P Q rows ls ms hs hs' cs cs' (Table f) x = absurd x.parts
 begun_refused o s t P Q rows ls ms hs hs' cs cs' (First e) x = x
 begun_refused o s t P Q rows ls ms hs hs' cs cs' (Second e) x = x

@@ -39,11 +39,14 @@ before_hit l ls e = ap (λ b. cond (not b) (1 + before ls) 0) e
 pub before_miss : (l : Line) (ls : List Line) → is_out l ≡ false → before (l ∷ ls) ≡ before ls + 1
 before_miss l ls e = let one : 1 + before ls ≡ before ls + 1 = omega arith in ap (λ b. cond (not b) (1 + before ls) 0) e ∙ one
 
-pub before_within : (ls : List Line) → before ls ≤ length ls
-before_within [] = omega arith
-before_within (l ∷ ls) =
-    let rest = before_within ls in
-    elim (is_out l) as (λ b. cond (not b) (1 + before ls) 0 ≤ suc (length ls)) [ true ↦ omega arith | false ↦ omega arith ]
+pub before_within : (ls : List Line) → 0 < out_count ls → before ls < length ls
+unfolding out_count
+before_within [] h = absurd (omega arith)
+before_within (l ∷ ls) h =
+    (elim (is_out l) as (λ b. 0 < cond b (suc (out_count ls)) (out_count ls) → cond (not b) (1 + before ls) 0 < suc (length ls)) [
+      | true ↦ λ due. omega arith
+      | false ↦ λ due. let rest = before_within ls due in omega arith
+    ]) h
 
 found_at : (ls : List Line) (d : Line) → before ls < length ls → is_out (get_or ls (before ls) d) ≡ true
 found_at [] d = λ h. absurd (omega arith)
@@ -106,6 +109,14 @@ module _ (ls : List Line) (hs : List ℕ) (long : length hs ≡ length ls) (k x 
     pub out_more : outs (drop (x + 1) ls) (drop (x + 1) hs) ≡ drop (k + 1) (outs ls hs)
     out_more = let e = both in cc
 
+-- before pair k there is an OUT line left
+pub out_due : (ls : List Line) (hs : List ℕ) → length hs ≡ length ls → (k i : ℕ) → k < out_count ls → outs (drop i ls) (drop i hs) ≡ drop k (outs ls hs) → 0 < out_count (drop i ls)
+out_due ls hs long k i h rest =
+    let count = outs_length ls hs long in
+    let here = outs_length (drop i ls) (drop i hs) (let a = length-drop i ls in let b = length-drop i hs in omega (arith, long)) in
+    let left = ap length rest ∙ length-drop k (outs ls hs) in
+    omega arith
+
 -- the next OUT line from line i on is line x, which is the k-th
 pub record OutAt (ls : List Line) (hs : List ℕ) (k x : ℕ) : Type 0 where
   pub inside : x < length ls
@@ -113,11 +124,11 @@ pub record OutAt (ls : List Line) (hs : List ℕ) (k x : ℕ) : Type 0 where
   pub more : outs (drop (x + 1) ls) (drop (x + 1) hs) ≡ drop (k + 1) (outs ls hs)
 
 pub out_at : (ls : List Line) (hs : List ℕ) → length hs ≡ length ls → (k i x : ℕ) → k < out_count ls → outs (drop i ls) (drop i hs) ≡ drop k (outs ls hs)
-    → outs (drop i ls) (drop i hs) ≡ outs (drop x ls) (drop x hs) → (x < length ls → is_out (get_or ls x blank_line) ≡ true) → OutAt ls hs k x
+    → outs (drop i ls) (drop i hs) ≡ outs (drop x ls) (drop x hs) → is_out (get_or ls x blank_line) ≡ true → OutAt ls hs k x
 out_at ls hs long k i x h rest skipped out =
     let here = sym skipped ∙ rest in
     let inside = out_inside ls hs long k x h here in
-    record { inside = inside; here = out_here ls hs long k x h here (out inside); more = out_more ls hs long k x h here (out inside) }
+    record { inside = inside; here = out_here ls hs long k x h here out; more = out_more ls hs long k x h here out }
 
 -- ---- the pairs so far
 

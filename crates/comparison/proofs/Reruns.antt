@@ -326,9 +326,7 @@ line_inputs o s t ls old new (lays.Line e) x = x.2.grows.inputs
 
 pub compared_inputs : (o : Ops) (s t : Store) (P Q : Pairs) (rows : ℕ) (ls ms : List Line) (hs hs' : List ℕ) (cs cs' : List Checked) (r : Result ℕ CompareFault) → Compared o s t P Q rows ls ms hs hs' cs cs' r → t.inputs ≡ s.inputs
 compared_inputs o s t P Q rows ls ms hs hs' cs cs' (Ok n) x = x.1.parts.2.inputs
-compared_inputs o s t P Q rows ls ms hs hs' cs cs' (Err compares.ShortList) x = ap (λ z. z.inputs) x.1.table
-compared_inputs o s t P Q rows ls ms hs hs' cs cs' (Err compares.FewFindings) x = ap (λ z. z.inputs) x.1.table
-compared_inputs o s t P Q rows ls ms hs hs' cs cs' (Err compares.OutCounts) x = ap (λ z. z.inputs) x.1.table
+compared_inputs o s t P Q rows ls ms hs hs' cs cs' (Err (compares.Counts f)) x = ap (λ z. z.inputs) x.1.table
 compared_inputs o s t P Q rows ls ms hs hs' cs cs' (Err (compares.Table f)) x = ap (λ z. z.inputs) x.3.table
 compared_inputs o s t P Q rows ls ms hs hs' cs cs' (Err (compares.First e)) x = line_inputs o s t _ _ _ e x.parts.0
 compared_inputs o s t P Q rows ls ms hs hs' cs cs' (Err (compares.Second e)) x = line_inputs o s t _ _ _ e x.parts.1
@@ -356,9 +354,7 @@ module _ (o : Ops) (s t : Store) (P Q : Pairs) (rows : ℕ) (ls ms : List Line) 
 
   pub compared_rest : (r : Result ℕ CompareFault) → Compared o s t P Q rows ls ms hs hs' cs cs' r → Rests
   compared_rest (Ok n) x = (x.1.handles_rest, x.1.found_rest)
-  compared_rest (Err compares.ShortList) x = unchanged_rest x.1
-  compared_rest (Err compares.FewFindings) x = unchanged_rest x.1
-  compared_rest (Err compares.OutCounts) x = unchanged_rest x.1
+  compared_rest (Err (compares.Counts f)) x = unchanged_rest x.1
   compared_rest (Err (compares.Table f)) x = unchanged_rest x.3
   compared_rest (Err (compares.First e)) x = (x.handles_rest, x.found_rest)
   compared_rest (Err (compares.Second e)) x = (x.handles_rest, x.found_rest)

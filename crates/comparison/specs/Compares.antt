@@ -6,7 +6,6 @@ use Rattle.netlist.specs.declared.finding.Finding.{Finding}
 use Rattle.netlist.specs.Lines.{out_count}
 use Rattle.netlist.specs.Faults.{first_fault}
 use Rattle.netlist.specs.Counts.{Counts, CountsRefused}
-use Rattle.netlist.specs.declared.fault.CountFault.TheVariants.{ShortList as NoRoom, FewFindings as NoRows, OutCounts as Uneven}
 use Rattle.records.specs.declared.fault.TableFault.TheVariants.{FewRows}
 use Rattle.records.specs.Stores.{Store}
 use Rattle.memo.specs.Memos.{Pairs}
@@ -17,7 +16,7 @@ use Rattle.faults.specs.declared.fault.PairRefusal.{PairRefusal}
 use Rattle.faults.specs.declared.fault.LayFault.{LayFault}
 use Rattle.faults.specs.declared.fault.LayFault.TheVariants.{ShortList as ShortLines, Table as OfTable, Line as AtLine}
 use Rattle.faults.specs.declared.fault.CompareFault.{CompareFault}
-use Rattle.faults.specs.declared.fault.CompareFault.TheVariants.{ShortList, FewFindings, OutCounts, Table, First, Second, Pair}
+use Rattle.faults.specs.declared.fault.CompareFault.TheVariants.{Counts as Uncounted, Table, First, Second, Pair}
 use Rattle.laying.specs.Lays.{TableRefuses, RefusedLine, Written, lay_answers}
 
 -- the handles and the findings of rows
@@ -49,9 +48,7 @@ PairsChecked o s t hs old new (Err e) = Grows s t × (e.pair < length old) × Ta
 -- the handles of the first netlist's lines are hs, those of the second's ks, and the pairs' rows are cs
 abbrev pub parts_event : List Line → List Line → List ℕ → List ℕ → List Checked → Result (Unit {0}) CompareFault → Event
 parts_event ls ms hs ks cs (Ok _) = pairs_event ls ms hs ks cs (Ok tt)
-parts_event ls ms hs ks cs (Err ShortList) = compare ls ms [] [] [] []
-parts_event ls ms hs ks cs (Err FewFindings) = compare ls ms [] [] [] []
-parts_event ls ms hs ks cs (Err OutCounts) = compare ls ms [] [] [] []
+parts_event ls ms hs ks cs (Err (Uncounted f)) = compare ls ms [] [] [] []
 parts_event ls ms hs ks cs (Err (Table f)) = compare ls ms [] [] [] []
 parts_event ls ms hs ks cs (Err (First e)) = compare ls ms (lay_answers ls hs (Err e)) [] [] []
 parts_event ls ms hs ks cs (Err (Second e)) = compare ls ms (map told hs) (lay_answers ms ks (Err e)) [] []
@@ -67,9 +64,7 @@ LineRefused o s t ls old new (AtLine e) = (e.line < length ls) × RefusedLine o 
 -- pair are written, and the others are as before
 abbrev pub PartsCompared : Ops → Store → Store → List Line → List Line → List ℕ → List ℕ → List ℕ → List ℕ → List Checked → List Checked → Result (Unit {0}) CompareFault → Type 0
 PartsCompared o s t ls ms hs hs' ks ks' cs cs' (Ok _) = (first_fault o s.inputs 0 ls ≡ None) × (first_fault o s.inputs 0 ms ≡ None) × Grows s t
-PartsCompared o s t ls ms hs hs' ks ks' cs cs' (Err ShortList) = ⊥
-PartsCompared o s t ls ms hs hs' ks ks' cs cs' (Err FewFindings) = ⊥
-PartsCompared o s t ls ms hs hs' ks ks' cs cs' (Err OutCounts) = ⊥
+PartsCompared o s t ls ms hs hs' ks ks' cs cs' (Err (Uncounted f)) = ⊥
 PartsCompared o s t ls ms hs hs' ks ks' cs cs' (Err (Table f)) = ⊥
 PartsCompared o s t ls ms hs hs' ks ks' cs cs' (Err (First e)) = LineRefused o s t ls hs hs' e × (ks' ≡ ks) × (cs' ≡ cs)
 PartsCompared o s t ls ms hs hs' ks ks' cs cs' (Err (Second e)) = (first_fault o s.inputs 0 ls ≡ None) × LineRefused o s t ms ks ks' e × (cs' ≡ cs)
@@ -98,9 +93,7 @@ pub record Begun (o : Ops) (s t : Store) (rows : ℕ) (ls ms : List Line) (hs hs
 -- what comparing answers and leaves: the tests in order, then the lines and the pairs
 abbrev pub Compared : Ops → Store → Store → Pairs → Pairs → ℕ → List Line → List Line → List ℕ → List ℕ → List Checked → List Checked → Result ℕ CompareFault → Type 0
 Compared o s t P Q rows ls ms hs hs' cs cs' (Ok n) = (n ≡ out_count ls) × Begun o s t rows ls ms hs hs' cs cs' (Ok tt)
-Compared o s t P Q rows ls ms hs hs' cs cs' (Err ShortList) = CountsRefused ls ms (length hs) (length cs) NoRoom × Unchanged s t P Q hs hs' cs cs'
-Compared o s t P Q rows ls ms hs hs' cs cs' (Err FewFindings) = CountsRefused ls ms (length hs) (length cs) NoRows × Unchanged s t P Q hs hs' cs cs'
-Compared o s t P Q rows ls ms hs hs' cs cs' (Err OutCounts) = CountsRefused ls ms (length hs) (length cs) Uneven × Unchanged s t P Q hs hs' cs cs'
+Compared o s t P Q rows ls ms hs hs' cs cs' (Err (Uncounted f)) = CountsRefused ls ms (length hs) (length cs) f × Unchanged s t P Q hs hs' cs cs'
 Compared o s t P Q rows ls ms hs hs' cs cs' (Err (Table f)) = Counts ls ms (length hs) (length cs) × (rows ≤ s.inputs) × (f ≡ FewRows) × Unchanged s t P Q hs hs' cs cs'
 Compared o s t P Q rows ls ms hs hs' cs cs' (Err (First e)) = Begun o s t rows ls ms hs hs' cs cs' (Err (First e))
 Compared o s t P Q rows ls ms hs hs' cs cs' (Err (Second e)) = Begun o s t rows ls ms hs hs' cs cs' (Err (Second e))

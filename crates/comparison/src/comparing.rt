@@ -8,13 +8,14 @@ ghost use Rattle.comparison.specs.Compares.{second_part, parts_event, PartsCompa
 use crate::pairing::check_pairs;
 use algebra::Algebra;
 use checking::Checked;
-use diagram::{Memo, Row, Table, TableFault};
+use diagram::{Memo, Row, Table};
 use faults::CompareFault;
 use laying::lay;
 use netlist::{Line, count_pairs};
 
 // Lays both netlists, the second one's handles after the first one's, and checks their OUT lines pairwise, a row for each.
-// The netlists and lists stay apart: each clause names one of them, and a struct of `&mut`s needs more clauses, on references.
+// The netlists and lists stay apart: each clause names one of them, and a struct of `&mut`s needs more clauses, on
+// references.
 fn compare_parts<G: Algebra, M: Memo>(
     table: &mut Table,
     algebra: &G,
@@ -79,9 +80,7 @@ pub fn compare<G: Algebra, M: Memo>(
         → Kept G.ops (room table.old) (compare_event first.now second.now handles.new found.new result ∷ run) (view table.new) (M.recalls memo.new) }
 {
     let pairs = count_pairs(first, second, handles.len(), found.len())?;
-    if rows.len() <= table.inputs() as usize {
-        return Err(CompareFault::Table(TableFault::FewRows));
-    }
+    table.check_rows(rows).map_err(CompareFault::Table)?;
     compare_parts(
         table,
         algebra,
@@ -90,7 +89,7 @@ pub fn compare<G: Algebra, M: Memo>(
         first,
         second,
         handles,
-        &mut found[0..pairs],
+        &mut found[..pairs],
     )?;
     Ok(pairs)
 }

@@ -23,11 +23,12 @@ fn before_out(lines: &[Line]) -> usize
         .unwrap_or(lines.len())
 }
 
-// The number of the next OUT line, from a line on, or the count of lines where there is none.
+// The number of the next OUT line, from a line on. There is one, so the answer is always a line's number.
 fn next_out(lines: &[Line], from: usize) -> usize
-    requires { from ≤ length lines.now }
-    ensures within { result ≤ length lines.now }
-    ensures found { result < length lines.now → is_out (slice_index_or lines.now result blank_line) ≡ true }
+    requires inside { from ≤ length lines.now }
+    requires due { 0 < out_count (drop from lines.now) }
+    ensures within { result < length lines.now }
+    ensures found { is_out (slice_index_or lines.now result blank_line) ≡ true }
     ensures skipped { (xs : List ℕ) → length xs ≡ length lines.now
         → outs (drop from lines.now) (drop from xs) ≡ outs (drop result lines.now) (drop result xs) }
 {
@@ -59,13 +60,12 @@ pub(crate) fn check_pairs<G: Algebra, M: Memo>(
     // places beside the pair's number: a `for` over a chain of the OUT lines has no invariant in a generic function yet
     let mut from_left = 0;
     let mut from_right = 0;
-    for pair in 0..found.len() {
+    for (pair, row) in found.iter_mut().enumerate() {
         let x = next_out(first, from_left);
         let y = next_out(second, from_right);
-        let checked = check(table, algebra, memo, rows, left[x], right[y]).map_err(
+        *row = check(table, algebra, memo, rows, left[x], right[y]).map_err(
             |fault| PairRefusal { pair, fault },
         )?;
-        found[pair] = checked;
         from_left = x + 1;
         from_right = y + 1;
     }

@@ -22,10 +22,8 @@ use crate::task::{Operation, Task};
 use crate::walk::walk;
 use algebra::Algebra;
 use memo::Memo;
+use netlist::MOST_INPUTS;
 use records::{Row, TableFault};
-
-// The most inputs that a table can have.
-const MOST_INPUTS: u8 = 60;
 
 // The codes of the two values of an input's bit.
 const BIT_DOWN: u32 = 0;

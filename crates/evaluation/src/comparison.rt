@@ -1,5 +1,5 @@
 // Comparing two netlists by trying every pattern.
-ghost use Rattle.std.specs.Prelude.{◌≡◌, ℕ, ◌+◌, ◌^◌, ◌<◌, ◌≤◌, ◌==◌, not, List, ◌++◌, length, take, drop, take_while, IfOk, Some, None, MatchResult, slice_index_or};
+ghost use Rattle.std.specs.Prelude.{◌≡◌, ℕ, ◌+◌, ◌<◌, ◌≤◌, ◌==◌, not, List, ◌++◌, length, take, drop, take_while, IfOk, None, MatchResult, slice_index_or};
 ghost use Rattle.std.specs.List.{list_any};
 ghost use Rattle.netlist.specs.Signals.{Signal};
 ghost use Rattle.netlist.specs.Lines.{line_signals, outs, out_count};
@@ -12,7 +12,9 @@ ghost use Rattle.netlist.specs.declared.finding.Finding.TheVariants.{Clean};
 
 use crate::values::fill_values;
 use algebra::{Algebra, Op};
-use netlist::{ComparisonFault, Difference, Finding, Line, Pattern, check_lines, count_pairs};
+use netlist::{
+    ComparisonFault, Difference, Finding, Line, MOST_INPUTS, Pattern, check_lines, count_pairs,
+};
 
 // Moves the values of the OUT lines to the front, in order. In place, so the next free place is counted: a slice has no
 // `retain`.
@@ -67,7 +69,8 @@ fn regrade<G: Algebra>(algebra: &G, old: Finding, number: u64, left: u8, right: 
 fn out_values<G: Algebra>(algebra: &G, lines: &[Line], pattern: Pattern, values: &mut [u8])
     requires accepted { first_fault G.ops pattern.width 0 lines.now ≡ None }
     requires room { length lines.now ≤ length values.old }
-    ensures { take (out_count lines.now) values.new ≡ values_at pattern.number (outs lines.now (line_signals G.ops pattern.width lines.now)) }
+    ensures told { take (out_count lines.now) values.new ≡ values_at pattern.number (outs lines.now (line_signals G.ops pattern.width lines.now)) }
+    ensures rest { drop (length lines.now) values.new ≡ drop (length lines.now) values.old }
 {
     fill_values(algebra, lines, pattern, values);
     keep_outs(lines, values);
@@ -105,7 +108,7 @@ pub fn check_comparison<G: Algebra>(
         (λ pairs. (pairs ≡ out_count first.now) × Accepted G.ops inputs first.now second.now room rows)
         (λ e. Refused G.ops inputs first.now second.now room rows e) }
 {
-    if inputs > 60 {
+    if inputs > MOST_INPUTS {
         return Err(ComparisonFault::TooManyInputs);
     }
     let pairs = count_pairs(first, second, room, rows)?;
@@ -128,17 +131,10 @@ fn try_pattern<G: Algebra>(
     ensures rest { drop (length first.now + length second.now) values.new ≡ drop (length first.now + length second.now) values.old }
     ensures graded { findings.old ≡ findings_below G.ops pattern.width pattern.number first.now second.now → findings.new ≡ findings_below G.ops pattern.width (pattern.number + 1) first.now second.now }
 {
-    let middle = first.len();
-    let end = middle + second.len();
-    out_values(algebra, first, pattern, &mut values[0..middle]);
-    out_values(algebra, second, pattern, &mut values[middle..end]);
-    regrade_pairs(
-        algebra,
-        pattern.number(),
-        &values[0..middle],
-        &values[middle..end],
-        findings,
-    );
+    let (left, right) = values.split_at_mut(first.len());
+    out_values(algebra, first, pattern, left);
+    out_values(algebra, second, pattern, right);
+    regrade_pairs(algebra, pattern.number(), left, right, findings);
 }
 
 // Compares by every pattern, from clean findings on.
@@ -157,10 +153,7 @@ fn try_patterns<G: Algebra>(
 {
     found.fill(Finding::Clean);
     for number in 0..1u64 << inputs {
-        // each number is below 2 ^ inputs
-        let Ok(pattern) = Pattern::new(inputs, number) else {
-            return;
-        };
+        let pattern = Pattern::new(inputs, number).unwrap();
         try_pattern(algebra, pattern, first, second, values, found);
     }
 }
@@ -182,6 +175,6 @@ pub fn compare_by_patterns<G: Algebra>(
     ensures rest { drop (length first.now + length second.now) values.new ≡ drop (length first.now + length second.now) values.old }
 {
     let pairs = check_comparison(algebra, inputs, first, second, values.len(), found.len())?;
-    try_patterns(algebra, inputs, first, second, values, &mut found[0..pairs]);
+    try_patterns(algebra, inputs, first, second, values, &mut found[..pairs]);
     Ok(pairs)
 }

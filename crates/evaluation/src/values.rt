@@ -1,5 +1,5 @@
 // The evaluator that goes straight from the lines to their values on one pattern.
-ghost use Rattle.std.specs.Prelude.{◌≡◌, ℕ, ◌+◌, ◌<◌, ◌≤◌, List, ◌++◌, length, drop, Some, None, MatchResult};
+ghost use Rattle.std.specs.Prelude.{◌≡◌, ◌+◌, ◌<◌, ◌≤◌, List, ◌++◌, length, drop, None, MatchResult};
 ghost use Rattle.netlist.specs.Signals.{Signal};
 ghost use Rattle.netlist.specs.Lines.{line_signal, line_signals};
 ghost use Rattle.netlist.specs.Faults.{line_fault, first_fault};
@@ -20,16 +20,16 @@ fn line_value<G: Algebra>(
     requires within { number ≤ length values.now }
     ensures { (ss : List Signal) → length ss ≡ number → Valued pattern.number ss values.now → result ≡ line_signal G.ops pattern.width ss line pattern.number }
 {
-    match Kind::try_from(line.kind) {
-        Ok(Kind::Input) => pattern.bit(line.first as u8),
-        Ok(Kind::Const) => line.first as u8,
-        Ok(Kind::Not) => algebra.turn(values[line.first as usize]),
-        Ok(Kind::Out) => values[line.first as usize],
-        _ => algebra.operate_by_number(
-            line.kind,
-            values[line.first as usize],
-            values[line.second as usize],
-        ),
+    match Kind::try_from(line.kind).unwrap() {
+        Kind::Input => pattern.bit(line.first as u8),
+        Kind::Const => line.first as u8,
+        Kind::Not => algebra.turn(values[line.first as usize]),
+        Kind::Out => values[line.first as usize],
+        Kind::And | Kind::Or | Kind::IfAnd | Kind::IfOr | Kind::Wire => {
+            let x = values[line.first as usize];
+            let y = values[line.second as usize];
+            algebra.operate_by_number(line.kind, x, y)
+        }
     }
 }
 

@@ -1,16 +1,14 @@
 -- The numbers of the refusals of lay and compare, and the netlist and the line that are refused. Assumes nothing.
 use Rattle.std.specs.Prelude.{ℕ, Some, None, Option}
-use Rattle.netlist.specs.FaultNumbers.{line_fault_number}
+use Rattle.netlist.specs.FaultNumbers.{line_fault_number, count_fault_number}
 use Rattle.netlist.specs.declared.fault.Located.{Located}
-use Rattle.netlist.specs.declared.fault.CountFault.{CountFault}
-use Rattle.netlist.specs.declared.fault.CountFault.TheVariants.{ShortList as NoRoom, FewFindings as NoRows, OutCounts as Uneven}
 use Rattle.records.specs.Faults.{table_fault_number}
 use Rattle.faults.specs.declared.fault.LineReason.{LineReason}
 use Rattle.faults.specs.declared.fault.LineReason.TheVariants.{Line as OfLine, Table as OfTable}
 use Rattle.faults.specs.declared.fault.LayFault.{LayFault}
 use Rattle.faults.specs.declared.fault.LayFault.TheVariants.{ShortList, Table, Line}
 use Rattle.faults.specs.declared.fault.CompareFault.{CompareFault}
-use Rattle.faults.specs.declared.fault.CompareFault.TheVariants.{ShortList as ShortHandles, FewFindings, OutCounts, Table as Untabled, First, Second, Pair}
+use Rattle.faults.specs.declared.fault.CompareFault.TheVariants.{Counts, Table as Untabled, First, Second, Pair}
 
 -- the line that is refused, and why
 abbrev pub LineRefusal : Type 0
@@ -31,9 +29,7 @@ lay_fault_line (Table f) = None
 lay_fault_line (Line e) = Some e.line
 
 abbrev pub compare_fault_number : CompareFault → ℕ
-compare_fault_number ShortHandles = 27
-compare_fault_number FewFindings = 43
-compare_fault_number OutCounts = 42
+compare_fault_number (Counts f) = count_fault_number f
 compare_fault_number (Untabled f) = table_fault_number f
 compare_fault_number (First f) = lay_fault_number f
 compare_fault_number (Second f) = lay_fault_number f
@@ -41,25 +37,15 @@ compare_fault_number (Pair e) = table_fault_number e.fault
 
 -- the netlist that is refused, or 0 for neither, and its line
 abbrev pub compare_fault_netlist : CompareFault → ℕ
-compare_fault_netlist ShortHandles = 0
-compare_fault_netlist FewFindings = 0
-compare_fault_netlist OutCounts = 0
+compare_fault_netlist (Counts f) = 0
 compare_fault_netlist (Untabled f) = 0
 compare_fault_netlist (First f) = 1
 compare_fault_netlist (Second f) = 2
 compare_fault_netlist (Pair e) = 0
 
 abbrev pub compare_fault_line : CompareFault → Option ℕ
-compare_fault_line ShortHandles = None
-compare_fault_line FewFindings = None
-compare_fault_line OutCounts = None
+compare_fault_line (Counts f) = None
 compare_fault_line (Untabled f) = None
 compare_fault_line (First f) = lay_fault_line f
 compare_fault_line (Second f) = lay_fault_line f
 compare_fault_line (Pair e) = None
-
--- what refuses the counts refuses the comparison
-abbrev pub of_counts : CountFault → CompareFault
-of_counts NoRoom = ShortHandles
-of_counts NoRows = FewFindings
-of_counts Uneven = OutCounts

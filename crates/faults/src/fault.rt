@@ -2,7 +2,7 @@ ghost use Rattle.std.specs.Prelude.{◌≡◌};
 ghost use Rattle.faults.specs.declared.fault.LineReason.TheVariants as reasons;
 ghost use Rattle.faults.specs.declared.fault.LayFault.TheVariants as lays;
 ghost use Rattle.faults.specs.declared.fault.CompareFault.TheVariants as compares;
-ghost use Rattle.faults.specs.Faults.{line_reason_number, lay_fault_number, lay_fault_line, compare_fault_number, compare_fault_netlist, compare_fault_line, of_counts};
+ghost use Rattle.faults.specs.Faults.{line_reason_number, lay_fault_number, lay_fault_line, compare_fault_number, compare_fault_netlist, compare_fault_line};
 
 use netlist::{CountFault, LineFault, Located};
 use records::TableFault;
@@ -103,12 +103,7 @@ pub struct PairRefusal {
 // Why two netlists are not compared, or not wholly.
 #[derive(Clone, Copy, PartialEq, Eq, Debug)]
 pub enum CompareFault {
-    // the list of handles is shorter than the lines of both netlists
-    ShortList,
-    // fewer rows for findings than the first netlist has OUT lines
-    FewFindings,
-    // the netlists have different counts of OUT lines
-    OutCounts,
+    Counts(CountFault),
     // fewer work rows than inputs + 1
     Table(TableFault),
     First(LayFault),
@@ -122,9 +117,7 @@ impl CompareFault {
         ensures { result ≡ compare_fault_number self }
     {
         match self {
-            CompareFault::ShortList => 27,
-            CompareFault::FewFindings => 43,
-            CompareFault::OutCounts => 42,
+            CompareFault::Counts(f) => f.number(),
             CompareFault::Table(f) => f.number(),
             CompareFault::First(f) | CompareFault::Second(f) => f.number(),
             CompareFault::Pair(e) => e.fault.number(),
@@ -154,14 +147,10 @@ impl CompareFault {
 }
 
 impl From<CountFault> for CompareFault {
-    ghost from_gives = { λ e r. r ≡ of_counts e };
+    ghost from_gives = { λ e r. r ≡ compares.Counts e };
 
     fn from(e: CountFault) -> CompareFault {
-        match e {
-            CountFault::ShortList => CompareFault::ShortList,
-            CountFault::FewFindings => CompareFault::FewFindings,
-            CountFault::OutCounts => CompareFault::OutCounts,
-        }
+        CompareFault::Counts(e)
     }
 }
 

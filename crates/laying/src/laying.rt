@@ -82,9 +82,7 @@ pub fn lay<G: Algebra, M: Memo>(
     if handles.len() < lines.len() {
         return Err(LayFault::ShortList);
     }
-    if rows.len() <= table.inputs() as usize {
-        return Err(LayFault::Table(TableFault::FewRows));
-    }
+    table.check_rows(rows).map_err(LayFault::Table)?;
     for (number, line) in lines.iter().enumerate() {
         // by its number, since the line reads the handles so far
         let h = lay_line(table, algebra, memo, rows, number, *line, handles).map_err(

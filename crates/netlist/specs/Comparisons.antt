@@ -1,12 +1,11 @@
 -- Which comparisons by trying every pattern are refused, and why. Assumes nothing.
-use Rattle.std.specs.Prelude.{◌≡◌, ℕ, ◌+◌, ◌<◌, ◌≤◌, List, length, Some, None, ◌≢◌}
+use Rattle.std.specs.Prelude.{◌≡◌, ℕ, ◌+◌, ◌<◌, ◌≤◌, List, length, Some, None}
 use Rattle.algebra.specs.Ops.{Ops}
 use Rattle.netlist.specs.declared.line.Line.{Line}
 use Rattle.netlist.specs.declared.fault.ComparisonFault.{ComparisonFault}
-use Rattle.netlist.specs.declared.fault.ComparisonFault.TheVariants.{TooManyInputs, ShortList, FewFindings, OutCounts, First, Second}
-use Rattle.netlist.specs.declared.fault.CountFault.{CountFault}
-use Rattle.netlist.specs.declared.fault.CountFault.TheVariants.{ShortList as NoRoom, FewFindings as NoRows, OutCounts as Uneven}
+use Rattle.netlist.specs.declared.fault.ComparisonFault.TheVariants.{TooManyInputs, Counts, First, Second}
 use Rattle.netlist.specs.Lines.{out_count}
+use Rattle.netlist.specs.Counts.{CountsRefused}
 use Rattle.netlist.specs.Faults.{first_fault}
 
 -- all tests pass: n inputs, the lines ls and ms, room for so many values and rows for so many findings
@@ -21,14 +20,6 @@ pub record Accepted (o : Ops) (n : ℕ) (ls ms : List Line) (room rows : ℕ) : 
 -- the first test that fails
 abbrev pub Refused : Ops → ℕ → List Line → List Line → ℕ → ℕ → ComparisonFault → Type 0
 Refused o n ls ms room rows TooManyInputs = 60 < n
-Refused o n ls ms room rows ShortList = (n ≤ 60) × (room < length ls + length ms)
-Refused o n ls ms room rows FewFindings = (n ≤ 60) × (length ls + length ms ≤ room) × (rows < out_count ls)
-Refused o n ls ms room rows OutCounts = (n ≤ 60) × (length ls + length ms ≤ room) × (out_count ls ≤ rows) × (out_count ms ≢ out_count ls)
+Refused o n ls ms room rows (Counts f) = (n ≤ 60) × CountsRefused ls ms room rows f
 Refused o n ls ms room rows (First f) = (n ≤ 60) × (length ls + length ms ≤ room) × (out_count ls ≤ rows) × (out_count ms ≡ out_count ls) × (first_fault o n 0 ls ≡ Some f)
 Refused o n ls ms room rows (Second f) = (n ≤ 60) × (length ls + length ms ≤ room) × (out_count ls ≤ rows) × (out_count ms ≡ out_count ls) × (first_fault o n 0 ls ≡ None) × (first_fault o n 0 ms ≡ Some f)
-
--- what refuses the counts refuses the comparison
-abbrev pub of_counts : CountFault → ComparisonFault
-of_counts NoRoom = ShortList
-of_counts NoRows = FewFindings
-of_counts Uneven = OutCounts

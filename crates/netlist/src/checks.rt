@@ -35,7 +35,7 @@ pub fn check_line<G: Algebra>(
     }
 }
 
-// The same of each line; else the first that is refused.
+// Whether each line may be evaluated or laid; else the first that is refused.
 pub fn check_lines<G: Algebra>(algebra: &G, inputs: u8, lines: &[Line]) -> Result<(), NetlistFault>
     ensures { MatchResult result
         (λ _. first_fault G.ops inputs 0 lines.now ≡ None)

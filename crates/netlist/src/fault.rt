@@ -1,7 +1,7 @@
 ghost use Rattle.std.specs.Prelude.{◌≡◌};
 ghost use Rattle.netlist.specs.declared.fault.EvaluationFault.TheVariants.{Line};
-ghost use Rattle.netlist.specs.FaultNumbers.{line_fault_number, evaluation_fault_number, comparison_fault_number, comparison_fault_netlist, comparison_fault_line};
-ghost use Rattle.netlist.specs.Comparisons.{of_counts};
+ghost use Rattle.netlist.specs.declared.fault.ComparisonFault.TheVariants.{Counts};
+ghost use Rattle.netlist.specs.FaultNumbers.{line_fault_number, evaluation_fault_number, count_fault_number, comparison_fault_number, comparison_fault_netlist, comparison_fault_line};
 
 // Why a line is refused.
 #[derive(Clone, Copy, PartialEq, Eq, Debug)]
@@ -66,23 +66,27 @@ impl From<NetlistFault> for EvaluationFault {
 #[derive(Clone, Copy, PartialEq, Eq, Debug)]
 pub enum CountFault {
     // the list of values is shorter than the lines of both netlists
-    ShortList,
+    ShortList = 27,
     // fewer rows for findings than the first netlist has OUT lines
-    FewFindings,
+    FewFindings = 43,
     // the netlists have different counts of OUT lines
-    OutCounts,
+    OutCounts = 42,
+}
+
+impl CountFault {
+    // The number of the refusal.
+    pub fn number(self) -> u8
+        ensures { result ≡ count_fault_number self }
+    {
+        self as u8
+    }
 }
 
 // Why a comparison by trying every pattern is refused.
 #[derive(Clone, Copy, PartialEq, Eq, Debug)]
 pub enum ComparisonFault {
     TooManyInputs,
-    // the list of values is shorter than the lines of both netlists
-    ShortList,
-    // fewer rows for findings than the first netlist has OUT lines
-    FewFindings,
-    // the netlists have different counts of OUT lines
-    OutCounts,
+    Counts(CountFault),
     First(NetlistFault),
     Second(NetlistFault),
 }
@@ -94,9 +98,7 @@ impl ComparisonFault {
     {
         match self {
             ComparisonFault::TooManyInputs => 21,
-            ComparisonFault::ShortList => 27,
-            ComparisonFault::FewFindings => 43,
-            ComparisonFault::OutCounts => 42,
+            ComparisonFault::Counts(f) => f.number(),
             ComparisonFault::First(f) | ComparisonFault::Second(f) => f.fault.number(),
         }
     }
@@ -124,13 +126,9 @@ impl ComparisonFault {
 }
 
 impl From<CountFault> for ComparisonFault {
-    ghost from_gives = { λ e r. r ≡ of_counts e };
+    ghost from_gives = { λ e r. r ≡ Counts e };
 
     fn from(e: CountFault) -> ComparisonFault {
-        match e {
-            CountFault::ShortList => ComparisonFault::ShortList,
-            CountFault::FewFindings => ComparisonFault::FewFindings,
-            CountFault::OutCounts => ComparisonFault::OutCounts,
-        }
+        ComparisonFault::Counts(e)
     }
 }

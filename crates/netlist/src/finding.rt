@@ -9,7 +9,8 @@ pub struct Difference {
     pub right: u8,
 }
 
-// What comparing a pair of outputs came to. A clean pair has grade 0, no pattern and no values.
+// What comparing a pair of outputs came to. A clean pair has grade 0, no pattern and no values. A verdict and so no
+// `Option<Difference>`: `Clean` says that every pattern is graded and none differs, `None` would read as none found yet.
 #[derive(Clone, Copy, PartialEq, Eq, Debug, Default)]
 pub enum Finding {
     #[default]

@@ -15,4 +15,4 @@ pub use fault::{ComparisonFault, CountFault, EvaluationFault, LineFault, Located
 pub use finding::{Difference, Finding, HasFinding};
 pub use kind::{Kind, UnknownKind};
 pub use line::Line;
-pub use pattern::{Pattern, PatternFault};
+pub use pattern::{MOST_INPUTS, Pattern, PatternFault};

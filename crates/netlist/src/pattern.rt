@@ -1,6 +1,9 @@
-ghost use Rattle.std.specs.Prelude.{◌≡◌, ◌^◌, ◌<◌, ◌≤◌};
+ghost use Rattle.std.specs.Prelude.{◌^◌, ◌<◌, ◌≤◌};
 
 mod calls;
+
+// The most inputs of a pattern, and so of a table.
+pub const MOST_INPUTS: u8 = 60;
 
 // One pattern of input bits: `width` of them, input 0 the highest bit of `number`. No other pattern can be built.
 #[derive(Clone, Copy)]

@@ -5,8 +5,9 @@ use Rattle.std.proofs.lemmas.Bool.{cond-true, cond-false, eq-eqb, ne_eqb, lt-ltb
 use Rattle.std.proofs.lemmas.Nat.{one_shl}
 use Rattle.algebra.specs.Ops.{Ops}
 use Rattle.netlist.specs.declared.line.Line.{Line}
+use Rattle.netlist.specs.declared.fault.CountFault.TheVariants.{ShortList, FewFindings, OutCounts}
 use Rattle.netlist.specs.declared.fault.ComparisonFault.{ComparisonFault}
-use Rattle.netlist.specs.declared.fault.ComparisonFault.TheVariants.{TooManyInputs, ShortList, FewFindings, OutCounts, First, Second}
+use Rattle.netlist.specs.declared.fault.ComparisonFault.TheVariants.{TooManyInputs, Counts, First, Second}
 use Rattle.netlist.specs.declared.finding.Finding.{Finding}
 use Rattle.netlist.specs.Lines.{line_signals, outs, out_count}
 use Rattle.netlist.specs.Findings.{finding, findings}
@@ -67,18 +68,16 @@ module _ (o : Ops) (n k l : ℕ) (x x' y y' : List Line) (ex : x ≡ x') (ey : y
   module _ (hk : k ≤ 512) (hl : l ≤ 512) where
     pub small_line : (f : ComparisonFault) → Refused o n ls ms room rows f → SmallLine f
     small_line TooManyInputs r = tt
-    small_line ShortList r = tt
-    small_line FewFindings r = tt
-    small_line OutCounts r = tt
+    small_line (Counts f) r = tt
     small_line (First f) r = let p = fault_within o n 0 ls f r.4 in omega (arith, length-take k x)
     small_line (Second f) r = let p = fault_within o n 0 ms f r.5 in omega (arith, length-take l y)
 
     pub fault_printed : n ≤ 60 → room ≡ 1024 → rows ≡ 512 → (f : ComparisonFault) → Refused o n ls ms room rows f
         → fault_row (comparison_fault_number f) (comparison_fault_netlist f) (comparison_fault_line f) ≡ printed
     fault_printed hn hv hr TooManyInputs r = absurd (omega arith)
-    fault_printed hn hv hr ShortList r = absurd (let q = r.1 in omega (arith, length-take k x, length-take l y))
-    fault_printed hn hv hr FewFindings r = absurd (let q = r.2 in let w = few_outs ls in omega (arith, length-take k x))
-    fault_printed hn hv hr OutCounts r = sym (cond-false _ _ _ (ne_eqb (out_count ms) (out_count ls) r.3)) ∙ same
+    fault_printed hn hv hr (Counts ShortList) r = absurd (let q = r.1 in omega (arith, length-take k x, length-take l y))
+    fault_printed hn hv hr (Counts FewFindings) r = absurd (let q = r.1.1 in let w = few_outs ls in omega (arith, length-take k x))
+    fault_printed hn hv hr (Counts OutCounts) r = sym (cond-false _ _ _ (ne_eqb (out_count ms) (out_count ls) r.1.2)) ∙ same
     fault_printed hn hv hr (First f) r = sym (cond-true _ _ _ (eq-eqb (out_count ms) (out_count ls) r.3) ∙ ap (λ z. unless_refused 1 z (unless_refused 2 (first_fault o n 0 ms) (cond (ltb 16 n) too_many_inputs (report o n ls ms)))) r.4) ∙ same
     fault_printed hn hv hr (Second f) r =
         sym

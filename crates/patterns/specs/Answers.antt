@@ -3,7 +3,7 @@ use Rattle.std.specs.Prelude.{ℕ, ◌^◌, ◌<◌, cond, List, ◌++◌, Some,
 use Rattle.algebra.specs.Ops.{Ops}
 use Rattle.netlist.specs.declared.line.Line.{Line}
 use Rattle.netlist.specs.declared.fault.ComparisonFault.{ComparisonFault}
-use Rattle.netlist.specs.declared.fault.ComparisonFault.TheVariants.{TooManyInputs, ShortList, FewFindings, OutCounts, First, Second}
+use Rattle.netlist.specs.declared.fault.ComparisonFault.TheVariants.{TooManyInputs, Counts, First, Second}
 use Rattle.netlist.specs.Lines.{out_count}
 use Rattle.netlist.specs.Faults.{NetlistFault, first_fault}
 use Rattle.netlist.specs.FaultNumbers.{line_fault_number}
@@ -45,8 +45,6 @@ Prints = texts.Prints 512 compared
 -- the refused line, if there is one, is one of a netlist of at most 512
 abbrev pub SmallLine : ComparisonFault → Type 0
 SmallLine TooManyInputs = Unit {0}
-SmallLine ShortList = Unit {0}
-SmallLine FewFindings = Unit {0}
-SmallLine OutCounts = Unit {0}
+SmallLine (Counts f) = Unit {0}
 SmallLine (First f) = f.line < 512
 SmallLine (Second f) = f.line < 512

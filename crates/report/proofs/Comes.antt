@@ -12,9 +12,10 @@ use Rattle.records.specs.Stores.{Store}
 use Rattle.memo.specs.Memos.{Pairs}
 use Rattle.records.specs.Runs.{Run, Kept}
 use Rattle.checking.specs.declared.checking.Checked.{Checked}
+use Rattle.netlist.specs.declared.fault.CountFault.TheVariants as counts
 use Rattle.faults.specs.declared.fault.LayFault.TheVariants as lays
 use Rattle.faults.specs.declared.fault.CompareFault.{CompareFault}
-use Rattle.faults.specs.declared.fault.CompareFault.TheVariants.{ShortList, FewFindings, OutCounts, Table, First, Second, Pair}
+use Rattle.faults.specs.declared.fault.CompareFault.TheVariants.{Counts, Table, First, Second, Pair}
 use Rattle.laying.specs.Lays.{RefusedLine}
 use Rattle.comparison.specs.Compares.{row_findings, second_part, Compared, compare_event}
 use Rattle.report.specs.Reports.{compared}
@@ -43,9 +44,9 @@ module _ (o : Ops) (room rows n : ℕ) (ls ms : List Line) (s t : Store) (P Q : 
         subst (λ z. compared room o n ls ms ≡ summary_row z Report t.used ++ findings_text o.letter n 0 (row_findings (take z cs'))) (sym x.0)
             (all_come o n room ls ms t Q (parts.2.inputs ∙ inputs) x.1.counted.pairs (take (length ls) hs') first_long (at_n ls parts.0) (second_part ls ms hs') second_long (at_n ms parts.1) (take (out_count ls) cs') (rows_long cs' same') kept),
       )
-  comes_to (Err ShortList) x kept = absurd (let h = x.0 in omega arith)
-  comes_to (Err FewFindings) x kept = absurd (let h = x.0.1 in omega arith)
-  comes_to (Err OutCounts) x kept = counts_stop o n room ls ms x.0.2
+  comes_to (Err (Counts counts.ShortList)) x kept = absurd (let h = x.0 in omega arith)
+  comes_to (Err (Counts counts.FewFindings)) x kept = absurd (let h = x.0.1 in omega arith)
+  comes_to (Err (Counts counts.OutCounts)) x kept = counts_stop o n room ls ms x.0.2
   comes_to (Err (Table f)) x kept = absurd (let h = x.1 in omega arith)
   comes_to (Err (First lays.ShortList)) x kept = absurd x.parts.0
   comes_to (Err (First (lays.Table f))) x kept = absurd x.parts.0

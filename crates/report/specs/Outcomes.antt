@@ -7,16 +7,14 @@ use Rattle.text.specs.declared.writer.Summary.TheVariants.{Report}
 use Rattle.text.specs.Reports.{fault_row, summary_row, findings_text}
 use Rattle.checking.specs.declared.checking.Checked.{Checked}
 use Rattle.faults.specs.declared.fault.CompareFault.{CompareFault}
-use Rattle.faults.specs.declared.fault.CompareFault.TheVariants.{ShortList, FewFindings, OutCounts, Table, First, Second, Pair}
+use Rattle.faults.specs.declared.fault.CompareFault.TheVariants.{Counts, Table, First, Second, Pair}
 use Rattle.faults.specs.Faults.{lay_fault_line, compare_fault_number, compare_fault_netlist}
 use Rattle.comparison.specs.Compares.{row_findings}
 use Rattle.report.specs.Reports.{compared}
 
 -- the line or the pair that is refused
 abbrev pub fault_place : CompareFault → Option ℕ
-fault_place ShortList = None
-fault_place FewFindings = None
-fault_place OutCounts = None
+fault_place (Counts f) = None
 fault_place (Table f) = None
 fault_place (First f) = lay_fault_line f
 fault_place (Second f) = lay_fault_line f

@@ -6,7 +6,7 @@ use algebra::{Algebra, Op};
 use comparison::{Checked, CompareFault, LayFault, LineReason, LineRefusal, PairRefusal};
 use diagram::TableFault;
 use evaluation::compare_by_patterns;
-use netlist::{Finding, Line, check_line, count_outs, count_pairs};
+use netlist::{CountFault, Finding, Line, check_line, count_outs};
 use std::alloc::{AllocError, Global};
 
 // A netlist, with the signals of its lines.
@@ -54,7 +54,17 @@ impl<'a, G: Algebra> Audit<'a, G> {
         handles: &[u32],
         found: &[Checked],
     ) -> Result<usize, CompareFault> {
-        let pairs = count_pairs(first, second, handles.len(), found.len())?;
+        // By itself, and not by `count_pairs`, which `compare` calls.
+        let pairs = count_outs(first);
+        if handles.len() < first.len().saturating_add(second.len()) {
+            return Err(CompareFault::Counts(CountFault::ShortList));
+        }
+        if found.len() < pairs {
+            return Err(CompareFault::Counts(CountFault::FewFindings));
+        }
+        if count_outs(second) != pairs {
+            return Err(CompareFault::Counts(CountFault::OutCounts));
+        }
         self.check_rows().map_err(CompareFault::Table)?;
         Ok(pairs)
     }

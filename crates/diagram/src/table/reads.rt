@@ -11,7 +11,7 @@ use records::{Record, Row, TableFault};
 
 impl Table {
     // Refuses fewer work rows than inputs + 1.
-    pub(crate) fn check_rows(&self, rows: &[Row]) -> Result<(), TableFault>
+    pub fn check_rows(&self, rows: &[Row]) -> Result<(), TableFault>
         ensures { MatchResult result
             (λ _. (view self.now).inputs < length rows.now)
             (λ f. (f ≡ TableFault.FewRows) × (length rows.now ≤ (view self.now).inputs)) }

@@ -1,10 +1,8 @@
-ghost use Rattle.std.specs.Prelude.{◌≡◌, ◌-◌, ◌/◌, ◌%◌, ◌^◌, ◌<◌, ◌≤◌, MatchResult};
+ghost use Rattle.std.specs.Prelude.{◌≡◌, ◌-◌, ◌%◌, ◌^◌, ◌<◌, ◌≤◌, MatchResult};
 ghost use Rattle.netlist.specs.Signals.{bit};
 ghost use Rattle.netlist.specs.Patterns.{pattern_fault_number};
 
-use super::{Pattern, PatternFault};
-
-const WIDEST: u8 = 60;
+use super::{MOST_INPUTS, Pattern, PatternFault};
 
 impl PatternFault {
     // The number of the refusal.
@@ -21,7 +19,7 @@ impl Pattern {
             (λ p. (p.width ≡ width) × (p.number ≡ number) × (width ≤ 60) × (number < 2 ^ width))
             (λ _. (width ≤ 60 → number < 2 ^ width → ⊥)) }
     {
-        if width > WIDEST || number >> width != 0 {
+        if width > MOST_INPUTS || number >> width != 0 {
             return Err(PatternFault::OutOfBounds);
         }
         Ok(Pattern { width, number })

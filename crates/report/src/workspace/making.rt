@@ -4,14 +4,14 @@ ghost use Rattle.report.specs.Limits.{lines_of, places_of, memo_rows_of};
 use super::{Limits, Workspace};
 use comparison::Checked;
 use diagram::{Row, RowMemo, Table};
-use netlist::Line;
+use netlist::{Line, MOST_INPUTS};
 use std::alloc::{AllocError, Global};
 
 // The most lines that a HEAD row can count.
 const MOST_LINES: usize = 99_999;
 
 // One more than the most inputs of a table.
-const ROWS: usize = 61;
+const ROWS: usize = MOST_INPUTS as usize + 1;
 
 impl Workspace {
     // A workspace of some limits. All its memory is asked for here.

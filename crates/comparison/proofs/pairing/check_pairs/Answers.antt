@@ -1,12 +1,14 @@
 use Rattle.std.proofs.Common.{◌≡◌, ◌<◌, ◌≤◌, ◌∷◌, ◌++◌, length, Err, sym, refl, ap, ◌∙◌, subst, arith, rules, of_calls}
+use Rattle.std.proofs.lemmas.List.{set-get_or}
 use Rattle.std.proofs.lemmas.Result.{err_from_is_err_and}
+use Rattle.netlist.specs.declared.finding.Finding.TheVariants.{Clean}
 use Rattle.netlist.specs.Lines.{out_count}
 use Rattle.records.specs.Runs.{Kept}
 use Rattle.diagram.specs.Views.{view, room}
 use Rattle.records.proofs.Shapes.{well}
 use Rattle.faults.proofs.Lifts.{ok_from_map_err, err_from_map_err}
 use Rattle.comparison.specs.Compares.{pairs_event, PairsChecked}
-use Rattle.comparison.proofs.Pairings.{PairDue, checking_none, out_inside, out_at, checked_more, checked_refused, refused_leaves, all_checked}
+use Rattle.comparison.proofs.Pairings.{PairDue, checking_none, out_due, out_at, checked_more, checked_refused, refused_leaves, all_checked}
 use Rattle.comparison.proofs.pairing.check_pairs.Goals as goal
 
 pub loop-pair-init : goal.loop-pair-init
@@ -14,25 +16,29 @@ loop-pair-init g c =
     (checking_none g.G.Algebra.ops (room c.args.table.now) (view c.args.table.now) (g.M.Memo.recalls c.args.memo.now) c.args.first.now c.args.second.now c.args.left.now c.args.right.now c.args.found.now, refl)
 
 pub next_out-x-requires : goal.next_out-x-requires
-next_out-x-requires g c = c.loop-pair.invariant.0.left_inside
+next_out-x-requires g c =
+    let inv = c.loop-pair.invariant.0 in
+    record {
+      inside = inv.left_inside;
+      due = out_due c.args.first.now c.args.left.now c.requires.left c.loop-pair.pair-counter c.loop-pair.from_left (omega (arith, c.loop-pair-test.true, c.requires.room)) inv.left_rest;
+    }
 
 pub next_out-y-requires : goal.next_out-y-requires
-next_out-y-requires g c = c.loop-pair.invariant.0.right_inside
+next_out-y-requires g c =
+    let inv = c.loop-pair.invariant.0 in
+    record {
+      inside = inv.right_inside;
+      due = out_due c.args.second.now c.args.right.now c.requires.right c.loop-pair.pair-counter c.loop-pair.from_right (omega (arith, c.loop-pair-test.true, c.requires.room, c.requires.even)) inv.right_rest;
+    }
 
 pub bounds-left-x : goal.bounds-left-x
-bounds-left-x g c =
-    let inv = c.loop-pair.invariant.0 in
-    let inside = out_inside c.args.first.now c.args.left.now c.requires.left c.loop-pair.pair-counter c.next_out-x.result (omega (arith, c.loop-pair-test.true, c.requires.room)) (sym (c.next_out-x.ensures.skipped c.args.left.now c.requires.left) ∙ inv.left_rest) in
-    omega (arith, c.requires.left)
+bounds-left-x g c = omega (arith, c.requires.left, c.next_out-x.ensures.within)
 
 pub bounds-right-y : goal.bounds-right-y
-bounds-right-y g c =
-    let inv = c.loop-pair.invariant.0 in
-    let inside = out_inside c.args.second.now c.args.right.now c.requires.right c.loop-pair.pair-counter c.next_out-y.result (omega (arith, c.loop-pair-test.true, c.requires.room, c.requires.even)) (sym (c.next_out-y.ensures.skipped c.args.right.now c.requires.right) ∙ inv.right_rest) in
-    omega (arith, c.requires.right)
+bounds-right-y g c = omega (arith, c.requires.right, c.next_out-y.ensures.within)
 
-pub returns-in_err-checked : goal.returns-in_err-checked
-returns-in_err-checked g c =
+pub returns-in_err-row : goal.returns-in_err-row
+returns-in_err-row g c =
     let p = err_from_is_err_and c.from_residual.result c.from_residual.ensures.1 in
     let o = g.G.Algebra.ops in
     let ls = c.args.first.now in
@@ -49,17 +55,27 @@ returns-in_err-checked g c =
     let right = out_at ms ks c.requires.right k c.loop-pair.from_right y (omega (arith, inside, c.requires.even)) inv.0.right_rest (c.next_out-y.ensures.skipped ks c.requires.right) c.next_out-y.ensures.found in
     let told = c.check.ensures in
     let fits = subst (λ n. (view c.check.new.table).used ≤ n) told.room told.fits in
-    let err = err_from_map_err _ _ c.check.result c.in_err-checked.field-0.0 c.in_err-checked.ensures.cases in
+    let err = err_from_map_err _ _ c.check.result c.in_err-row.field-0.0 c.in_err-row.ensures.cases in
     let f = err.0 in
-    let made : c.in_err-checked.field-0.0 ≡ record { pair = k; fault = f } = search (rules, of_calls) in
-    let is : c.from_residual.result ≡ Err (record { pair = k; fault = f }) = p.1 ∙ ap Err (p.2 ∙ made) in
+    let made : c.in_err-row.field-0.0 ≡ record { pair = k; fault = f } = search (rules, of_calls) in
+    let r = c.from_residual.result in
+    let is : r ≡ Err (record { pair = k; fault = f }) = p.1 ∙ ap Err (p.2 ∙ made) in
+    let ds = c.loop-pair.found in
+    -- the row of the refused pair is as it was
+    let same = sym (set-get_or ds k (record { handle = 0; finding = Clean })) in
+    let s = view c.args.table.now in
+    let t = view c.check.new.table in
+    let Q = g.M.Memo.recalls c.check.new.memo in
     record {
-      checked = subst (λ r. PairsChecked g.G.Algebra.ops (view c.args.table.now) (view c.check.new.table) (c.args.left.now ++ c.args.right.now) c.args.found.now c.loop-pair.found r) (sym is)
-          (refused_leaves g.G.Algebra.laws inv.0 due (well c.loop-pair.table.well) (view c.check.new.table) (well c.check.new.table.well) (room c.loop-pair.table) inv.1 fits (g.M.Memo.recalls c.check.new.memo) (length c.loop-pair.rows) x y left right (omega (arith, c.requires.rows, c.loop-pair.auto.rows)) f c.check.result err.1 told.shape c.requires.room);
+      checked =
+          subst (λ z. PairsChecked o s t (hs ++ ks) c.args.found.now z r) same
+          (subst (λ r. PairsChecked o s t (hs ++ ks) c.args.found.now ds r) (sym is)
+          (refused_leaves g.G.Algebra.laws inv.0 due (well c.loop-pair.table.well) (view c.check.new.table) (well c.check.new.table.well) (room c.loop-pair.table) inv.1 fits (g.M.Memo.recalls c.check.new.memo) (length c.loop-pair.rows) x y left right (omega (arith, c.requires.rows, c.loop-pair.auto.rows)) f c.check.result err.1 told.shape c.requires.room));
       room = told.room ∙ inv.1;
       kept = λ run kept.
-          subst (λ r. Kept o (room c.args.table.now) (pairs_event ls ms hs ks c.loop-pair.found r ∷ run) (view c.check.new.table) (g.M.Memo.recalls c.check.new.memo)) (sym is)
-          (checked_refused g.G.Algebra.laws inv.0 due (well c.loop-pair.table.well) (view c.check.new.table) (well c.check.new.table.well) (room c.loop-pair.table) inv.1 fits (g.M.Memo.recalls c.check.new.memo) (length c.loop-pair.rows) x y left right f c.check.result err.1 told.shape told.meaning run kept);
+          subst (λ z. Kept o (room c.args.table.now) (pairs_event ls ms hs ks z r ∷ run) t Q) same
+          (subst (λ r. Kept o (room c.args.table.now) (pairs_event ls ms hs ks ds r ∷ run) t Q) (sym is)
+          (checked_refused g.G.Algebra.laws inv.0 due (well c.loop-pair.table.well) (view c.check.new.table) (well c.check.new.table.well) (room c.loop-pair.table) inv.1 fits (g.M.Memo.recalls c.check.new.memo) (length c.loop-pair.rows) x y left right f c.check.result err.1 told.shape told.meaning run kept));
     }
 
 pub loop-pair-preserved : goal.loop-pair-preserved
@@ -79,8 +95,8 @@ loop-pair-preserved g c =
     let right = out_at ms ks c.requires.right k c.loop-pair.from_right y (omega (arith, inside, c.requires.even)) inv.0.right_rest (c.next_out-y.ensures.skipped ks c.requires.right) c.next_out-y.ensures.found in
     let told = c.check.ensures in
     let fits = subst (λ n. (view c.check.new.table).used ≤ n) told.room told.fits in
-    let d = c.in_ok-checked.checked in (
-      checked_more g.G.Algebra.laws inv.0 due (well c.loop-pair.table.well) (view c.check.new.table) (well c.check.new.table.well) (room c.loop-pair.table) inv.1 fits (g.M.Memo.recalls c.check.new.memo) (length c.loop-pair.rows) x y left right d c.check.result (ok_from_map_err _ c.check.result d c.in_ok-checked.ensures.cases) told.shape told.meaning told.found,
+    let d = c.in_ok-row.field-0 in (
+      checked_more g.G.Algebra.laws inv.0 due (well c.loop-pair.table.well) (view c.check.new.table) (well c.check.new.table.well) (room c.loop-pair.table) inv.1 fits (g.M.Memo.recalls c.check.new.memo) (length c.loop-pair.rows) x y left right d c.check.result (ok_from_map_err _ c.check.result d c.in_ok-row.ensures.cases) told.shape told.meaning told.found,
       told.room ∙ inv.1,
     )
 

@@ -10,7 +10,7 @@ overflow_add-result c =
     let ls = c.args.lines.now in
     let is : c.before_out.result ≡ position_or_len is_out (drop c.args.from ls) = c.before_out.ensures ∙ ap (position_or_len is_out) (take_rest ls c.args.from) in
     let long = length-drop c.args.from ls in
-    let within = before_within (drop c.args.from ls) in
+    let within = before_within (drop c.args.from ls) c.requires.due in
     omega arith
 
 pub returns : goal.returns
@@ -20,9 +20,9 @@ returns c =
     let k = c.before_out.result in
     let is : k ≡ position_or_len is_out (drop from ls) = c.before_out.ensures ∙ ap (position_or_len is_out) (take_rest ls from) in
     let long = length-drop from ls in
-    let within = before_within (drop from ls) in
+    let within = before_within (drop from ls) c.requires.due in
     record {
       within = omega arith;
-      found = λ h. before_found ls from k is (omega arith);
+      found = before_found ls from k is (omega arith);
       skipped = λ xs e. before_skips ls from k is xs e;
     }

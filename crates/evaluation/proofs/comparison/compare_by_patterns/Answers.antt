@@ -1,6 +1,5 @@
-use Rattle.std.proofs.Common.{◌≡◌, ◌-◌, ◌++◌, drop, ap, ◌∙◌, arith}
+use Rattle.std.proofs.Common.{◌++◌, drop, ap, arith}
 use Rattle.netlist.specs.Lines.{line_signals, outs}
-use Rattle.netlist.specs.Findings.{findings}
 use Rattle.netlist.proofs.OutValues.{out_signals_length}
 use Rattle.netlist.proofs.Graded.{verdicts}
 use Rattle.evaluation.proofs.comparison.compare_by_patterns.Goals as goal
@@ -15,8 +14,7 @@ returns g c =
     let ok = c.in_ok-pairs.ensures in
     let es = out_signals_length o n ls in
     let et = out_signals_length o n ms in
-    let same : pairs - 0 ≡ pairs = omega arith in
-    let whole = ap (λ fs. fs ++ drop (pairs - 0) c.args.found.now) c.try_patterns.ensures.found ∙ ap (λ k. findings o n ls ms ++ drop k c.args.found.now) same in
+    let whole = ap (λ fs. fs ++ drop pairs c.args.found.now) c.try_patterns.ensures.found in
     record {
       answer = (ok.0, ok.1, whole);
       verdicts = λ k h.
