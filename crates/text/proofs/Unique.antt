@@ -1,7 +1,7 @@
 -- Bytes have one reading at most. Assumes nothing.
-use Rattle.std.proofs.Common.{◌≡◌, ℕ, zero, suc, ◌+◌, ◌-◌, ◌*◌, ◌<◌, ◌≤◌, true, List, [], ◌∷◌, ◌++◌, length, take, drop, Ok, Err, Result, sym, refl, ap, ◌∙◌, subst, ⊎_elim, arith, drop-drop, take_at, drop_at}
+use Rattle.std.proofs.Common.{◌≡◌, ℕ, zero, suc, ◌+◌, ◌-◌, ◌*◌, ◌<◌, ◌≤◌, true, List, [], ◌∷◌, ◌++◌, length, take, drop, Ok, Err, Result, sym, refl, ap, ◌∙◌, subst, ⊎_elim, append_assoc, arith, drop-drop, take_at, drop_at}
 use Rattle.std.specs.List.{AllByRecursion}
-use Rattle.std.proofs.lemmas.List.{take-take, drop-take}
+use Rattle.std.proofs.lemmas.List.{take-take, drop-take, length-take-le, take-append-drop, drop-append-le}
 use Rattle.std.proofs.lemmas.Bool.{cases_order, cases_Bool, cond-false}
 use Rattle.netlist.specs.declared.line.Line.{Line}
 use Rattle.text.specs.declared.header.Header.{Header}
@@ -259,3 +259,36 @@ reads bytes from x y r p =
           functional bytes from x y (ls ++ drop (length ls) x) r (Ok (record { lines = length ls; inputs = i; values = v })) p
           (record { lines = ls; counted = refl; stands = s; filled = record { fits = l; after_is = refl } });
     }
+
+-- of a reading into the first entries of a list, the whole list; a good HEAD row counts just so many
+module _ (bytes : List ℕ) (from n i v : ℕ) (h : HeadRow (row_at bytes from) n i v) (a : Allowed i v) (x y : List Line) (l : n ≤ length x) where
+  few : length (take n x) ≡ n
+  few = length-take-le n x l
+
+  filled_part : (ls : List Line) → Filled (take n x) y ls → Filled x (y ++ drop n x) ls
+  filled_part ls f =
+      let k = length ls in
+      let w : k ≤ length (take n x) = f.fits in
+      record {
+        fits = omega (arith, few);
+        after_is = ap (λ t. t ++ drop n x) f.after_is ∙ append_assoc ls (drop k (take n x)) (drop n x)
+            ∙ ap (λ t. ls ++ t) (sym (drop-append-le k (take n x) (drop n x) w) ∙ ap (drop k) (take-append-drop n x));
+      }
+
+  pub whole_reading : (r : Result Header ReadFault) → Reading bytes from (take n x) y r → Reading bytes from x (y ++ drop n x) r
+  whole_reading (Ok g) r = record { lines = r.lines; counted = r.counted; stands = r.stands; filled = filled_part r.lines r.filled }
+  whole_reading (Err (Head f)) r = absurd (no_head_fault bytes from n i v h a (take n x) y f r)
+  whole_reading (Err TooManyLines) r = absurd (not_many bytes from n i v h a (take n x) y (omega (arith, few)) r)
+  whole_reading (Err (AtLine due f)) r =
+      record {
+        count = r.count;
+        inputs = r.inputs;
+        values = r.values;
+        lines = r.lines;
+        begins = r.begins;
+        turn = r.turn;
+        counted = r.counted;
+        room = let q = r.room in omega (arith, few, q);
+        failed = r.failed;
+        filled = filled_part r.lines r.filled;
+      }
