@@ -1,11 +1,13 @@
 -- Which rows fail which test, and that the row of a line, and a HEAD row, hold one content at most. Assumes nothing.
-use Rattle.std.proofs.Common.{◌≡◌, ℕ, ◌<◌, true, List, take, drop, Some, sym, refl, ap, ◌∙◌, subst, arith}
+use Rattle.std.proofs.Common.{◌≡◌, ℕ, ◌<◌, ◌≤◌, true, List, take, drop, Some, sym, refl, ap, ◌∙◌, subst, inl, inr, arith}
 use Rattle.netlist.specs.declared.line.Line.{Line}
+use Rattle.text.specs.declared.header.Values.{Values}
+use Rattle.text.specs.declared.header.Values.TheVariants.{Two, Five}
 use Rattle.text.specs.declared.fault.RowFault.{RowFault}
 use Rattle.text.specs.declared.fault.RowFault.TheVariants.{Incomplete, Word, Field, OutOfTurn, Limits}
 use Rattle.text.specs.Faults.{order, FirstFailed}
 use Rattle.text.specs.Rows.{number_field, operand_field, Framed, word_of}
-use Rattle.text.specs.Netlists.{kind_word, head_word, takes_one, second_operand, Readable, line_row, head_row, LineRow, HeadRow, Allowed, LineTest, HeadTest}
+use Rattle.text.specs.Netlists.{kind_word, head_word, takes_one, second_operand, Readable, line_row, head_row, LineRow, HeadRow, values_number, Allowed, LineTest, HeadTest}
 use Rattle.text.proofs.Guessing.{same_number}
 use Rattle.text.proofs.Words.{word_length, same_kind}
 use Rattle.text.proofs.Framing.{by_fields, at_word, at_first, at_second, row_framed}
@@ -142,6 +144,10 @@ module _ (s : List ℕ) (n i v m j w : ℕ) (p : HeadRow s n i v) (q : HeadRow s
 
   pub same_values : v ≡ w
   same_values = same_number 6 v w p.less q.less (sym (head_second n i v) ∙ ap (λ t. take 6 (drop 18 t)) rows ∙ head_second m j w)
+
+pub allowed : (i : ℕ) (v : Values) → i ≤ 60 → Allowed i (values_number v)
+allowed i Two h = (h, inl refl)
+allowed i Five h = (h, inr refl)
 
 -- how the reader of a HEAD row ends; t is the row in its place
 module _ (s t : List ℕ) (e : s ≡ t) (f : Framed s) where

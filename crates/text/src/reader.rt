@@ -1,6 +1,6 @@
-ghost use Rattle.std.specs.Prelude.{◌≡◌, length};
+ghost use Rattle.std.specs.Prelude.{◌≡◌, ◌≤◌, length};
 ghost use Rattle.text.specs.Rows.{row_at};
-ghost use Rattle.text.specs.Netlists.{HeadRow, Allowed};
+ghost use Rattle.text.specs.Netlists.{HeadRow, values_number};
 ghost use Rattle.text.specs.Readings.{Reading, Reads};
 
 use crate::fault::ReadFault;
@@ -15,7 +15,8 @@ fn read_lines(
     header: Header,
     lines: &mut [Line],
 ) -> Result<Header, ReadFault>
-    requires head { HeadRow (row_at bytes.now from) header.lines header.inputs header.values × Allowed header.inputs header.values }
+    requires head { HeadRow (row_at bytes.now from) header.lines header.inputs (values_number header.values) }
+    requires few { header.inputs ≤ 60 }
     requires counted { length lines.old ≡ header.lines }
     ensures { Reading bytes.now from lines.old lines.new result }
 {

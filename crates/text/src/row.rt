@@ -1,11 +1,11 @@
-ghost use Rattle.std.specs.Prelude.{◌≡◌, ◌<◌, Decides, MatchOption, MatchResult};
+ghost use Rattle.std.specs.Prelude.{◌≡◌, ◌<◌, ◌≤◌, MatchOption, MatchResult};
 ghost use Rattle.text.specs.Rows.{row_at, Framed};
 ghost use Rattle.text.specs.Faults.{FirstFailed};
-ghost use Rattle.text.specs.Netlists.{Readable, line_row, LineTest, HeadRow, HeadTest, Allowed};
+ghost use Rattle.text.specs.Netlists.{Readable, line_row, LineTest, HeadRow, HeadTest, values_number};
 
 use crate::fault::RowFault;
 use crate::field::{read_kind, read_number, read_second};
-use crate::header::Header;
+use crate::header::{Header, Values};
 use netlist::Line;
 
 // A row with its line feed.
@@ -19,17 +19,10 @@ fn row_at(bytes: &[u8], at: usize) -> Option<&[u8]>
     (row[5] == b' ' && row[24] == b'\n').then_some(row)
 }
 
-// Whether a netlist may have so many inputs and values.
-fn allowed(inputs: u32, values: u32) -> bool
-    ensures { Decides result (Allowed inputs values) }
-{
-    inputs <= 60 && (values == 2 || values == 5)
-}
-
 // The HEAD row at a place.
 pub(crate) fn read_head(bytes: &[u8], at: usize) -> Result<Header, RowFault>
     ensures { MatchResult result
-        (λ h. HeadRow (row_at bytes.now at) h.lines h.inputs h.values × Allowed h.inputs h.values)
+        (λ h. HeadRow (row_at bytes.now at) h.lines h.inputs (values_number h.values) × (h.inputs ≤ 60))
         (FirstFailed (HeadTest (row_at bytes.now at))) }
 {
     let row = row_at(bytes, at).ok_or(RowFault::Incomplete)?;
@@ -38,14 +31,15 @@ pub(crate) fn read_head(bytes: &[u8], at: usize) -> Result<Header, RowFault>
     }
     let lines = read_number::<5>(&row[0..5]).ok_or(RowFault::Field)?;
     let inputs = read_number::<6>(&row[12..18]).ok_or(RowFault::Field)?;
-    let values = read_number::<6>(&row[18..24]).ok_or(RowFault::Field)?;
-    if !allowed(inputs, values) {
+    let number = read_number::<6>(&row[18..24]).ok_or(RowFault::Field)?;
+    let values = Values::of(number).ok_or(RowFault::Limits)?;
+    if inputs > 60 {
         return Err(RowFault::Limits);
     }
     Ok(Header {
         lines,
         inputs: inputs as u8,
-        values: values as u8,
+        values,
     })
 }
 

@@ -4,8 +4,9 @@ use Rattle.std.proofs.lemmas.Result.{MatchResult-weaker, MatchResult-at_ok, Matc
 use Rattle.text.specs.declared.fault.ReadFault.TheVariants.{AtLine}
 use Rattle.text.specs.Rows.{row_at}
 use Rattle.text.specs.Faults.{FirstFailed}
-use Rattle.text.specs.Netlists.{Readable, line_row, LineTest}
+use Rattle.text.specs.Netlists.{Readable, line_row, LineTest, values_number}
 use Rattle.text.specs.Readings.{Reading}
+use Rattle.text.proofs.Tested.{allowed}
 use Rattle.text.proofs.Begun.{head_fits, line_fits, begins_none, begins_set, stands, filled, rest_set, refused_at}
 use Rattle.text.proofs.Steps.{mapped_ok, mapped_err}
 use Rattle.text.proofs.reader.read_lines.Goals as goal
@@ -13,7 +14,7 @@ use Rattle.text.proofs.reader.read_lines.Goals as goal
 pub loop-due-init : goal.loop-due-init
 loop-due-init c =
     let h = c.requires.head in
-    (begins_none c.args.bytes.now c.args.from _ _ _ h.0 h.1, head_fits c.args.bytes.now c.args.from _ _ _ h.0, refl)
+    (begins_none c.args.bytes.now c.args.from _ _ _ h (allowed _ c.args.header.values c.requires.few), head_fits c.args.bytes.now c.args.from _ _ _ h, refl)
 
 pub loop-due-preserved : goal.loop-due-preserved
 loop-due-preserved c =
@@ -39,7 +40,7 @@ returns-in_err-line c =
     (record {
       count = c.args.header.lines;
       inputs = c.args.header.inputs;
-      values = c.args.header.values;
+      values = values_number c.args.header.values;
       lines = take d c.loop-due.lines;
       begins = i.0;
       turn = length-take-le d c.loop-due.lines (omega arith);

@@ -1,7 +1,9 @@
 use Rattle.std.proofs.Common.{Err, refl}
 use Rattle.std.proofs.lemmas.Result.{err_from_is_err_and}
 use Rattle.text.specs.declared.fault.ReadFault.TheVariants.{TooManyLines}
+use Rattle.text.specs.Netlists.{values_number}
 use Rattle.text.specs.Readings.{TooMany}
+use Rattle.text.proofs.Tested.{allowed}
 use Rattle.text.proofs.Begun.{refused_head}
 use Rattle.text.proofs.Unique.{reads, whole_reading}
 use Rattle.text.proofs.reader.read_netlist.Goals as goal
@@ -21,9 +23,9 @@ returns-then-header-lines c =
     record {
       count = c.in_ok-header.header.lines;
       inputs = c.in_ok-header.header.inputs;
-      values = c.in_ok-header.header.values;
+      values = values_number c.in_ok-header.header.values;
       head = q.0;
-      allowed = q.1;
+      allowed = allowed _ c.in_ok-header.header.values q.1;
       long = c.if-header-lines.true;
       kept = refl;
     } in
@@ -32,4 +34,4 @@ returns-then-header-lines c =
 pub returns : goal.returns
 returns c =
     let q = c.in_ok-header.ensures in
-    reads _ _ _ _ _ (whole_reading _ _ _ _ _ q.0 q.1 _ _ c.if-header-lines.false _ c.read_lines.ensures)
+    reads _ _ _ _ _ (whole_reading _ _ _ _ _ q.0 (allowed _ c.in_ok-header.header.values q.1) _ _ c.if-header-lines.false _ c.read_lines.ensures)
