@@ -34,7 +34,7 @@ struct Lists {
     ghost wide: { vec_len out ≡ 40000 },
 }
 
-// Writes that there are too many patterns to try.
+// Writes that there are too many patterns to try: not a row, so `text` has no writer of it.
 fn put_too_many(out: &mut [u8]) -> usize
     requires { 46 ≤ length out.old }
     ensures { take result out.new ≡ too_many_inputs }

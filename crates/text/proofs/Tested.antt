@@ -14,16 +14,6 @@ use Rattle.text.proofs.Framing.{by_fields, at_word, at_first, at_second, row_fra
 
 -- the first test that fails
 module _ (P : RowFault → Type 0) where
-  pub fails_incomplete : (P Incomplete → ⊥) → FirstFailed P Incomplete
-  fails_incomplete n = record { before = earlier; here = n }
-    where
-      earlier : (test : RowFault) → order test < order Incomplete → P test
-      earlier Incomplete h = absurd (omega arith)
-      earlier Word h = absurd (omega arith)
-      earlier Field h = absurd (omega arith)
-      earlier OutOfTurn h = absurd (omega arith)
-      earlier Limits h = absurd (omega arith)
-
   pub fails_word : P Incomplete → (P Word → ⊥) → FirstFailed P Word
   fails_word p n = record { before = earlier; here = n }
     where
@@ -151,9 +141,6 @@ allowed i Five h = (h, inr refl)
 
 -- how the reader of a HEAD row ends; t is the row in its place
 module _ (s t : List ℕ) (e : s ≡ t) (f : Framed s) where
-  pub head_fails_word : (word_of s ≡ head_word → ⊥) → FirstFailed (HeadTest t) Word
-  head_fails_word n = subst (λ u. FirstFailed (HeadTest u) Word) e (fails_word (HeadTest s) f n)
-
   pub head_fails_field : word_of s ≡ head_word → ((n i v : ℕ) → HeadRow s n i v → ⊥) → FirstFailed (HeadTest t) Field
   head_fails_field w none = subst (λ u. FirstFailed (HeadTest u) Field) e (fails_field (HeadTest s) f w (λ q. none q.0 q.1 q.2 q.3))
 

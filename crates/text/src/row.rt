@@ -29,7 +29,7 @@ pub(crate) fn read_head(bytes: &[u8], at: usize) -> Result<Header, RowFault>
     if &row[6..12] != b"HEAD  ".as_slice() {
         return Err(RowFault::Word);
     }
-    let lines = read_number::<5>(&row[0..5]).ok_or(RowFault::Field)?;
+    let lines = read_number::<5>(&row[..5]).ok_or(RowFault::Field)?;
     let inputs = read_number::<6>(&row[12..18]).ok_or(RowFault::Field)?;
     let number = read_number::<6>(&row[18..24]).ok_or(RowFault::Field)?;
     let values = Values::of(number).ok_or(RowFault::Limits)?;
@@ -52,7 +52,7 @@ pub(crate) fn read_line(bytes: &[u8], at: usize, due: u32) -> Result<Line, RowFa
 {
     let row = row_at(bytes, at).ok_or(RowFault::Incomplete)?;
     let kind = read_kind(&row[6..12]).ok_or(RowFault::Word)?;
-    let number = read_number::<5>(&row[0..5]).ok_or(RowFault::Field)?;
+    let number = read_number::<5>(&row[..5]).ok_or(RowFault::Field)?;
     let first = read_number::<6>(&row[12..18]).ok_or(RowFault::Field)?;
     let second = read_second(kind, &row[18..24]).ok_or(RowFault::Field)?;
     if number != due {
