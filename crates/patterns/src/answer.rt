@@ -7,7 +7,7 @@ use algebra::{Algebra, FiveValued, TwoValued};
 use evaluation::{check_comparison, compare_by_patterns};
 use netlist::{ComparisonFault, Finding, Line};
 use std::alloc::{AllocError, Global};
-use text::{Pair, Summary, read_pair, write_fault, write_findings, write_summary};
+use text::{Pair, Summary, Values, read_pair, write_fault, write_findings, write_summary};
 
 // How many lines a netlist may have, and how many bytes are enough for whatever is printed.
 const LINES: usize = 512;
@@ -34,7 +34,7 @@ struct Lists {
     ghost wide: { vec_len out ≡ 40000 },
 }
 
-// Writes that there are too many patterns to try.
+// Writes that there are too many patterns to try: not a row, so `text` has no writer of it.
 fn put_too_many(out: &mut [u8]) -> usize
     requires { 46 ≤ length out.old }
     ensures { take result out.new ≡ too_many_inputs }
@@ -118,8 +118,10 @@ impl Lists {
                 fault.line(),
             )
             .unwrap(),
-            Ok(pair) if pair.first.values == 2 => self.put_comparison(&TwoValued, pair),
-            Ok(pair) => self.put_comparison(&FiveValued, pair),
+            Ok(pair) => match pair.first.values {
+                Values::Two => self.put_comparison(&TwoValued, pair),
+                Values::Five => self.put_comparison(&FiveValued, pair),
+            },
         }
     }
 }

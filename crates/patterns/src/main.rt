@@ -1,4 +1,5 @@
-// Compares two netlists, which stand one after the other on standard input, by trying every pattern.
+// Compares two netlists, which stand one after the other on standard input, by trying every pattern. The lines
+// of `main` stand in the comparers too, since no contract can say what a shared function reads and prints.
 #![tactic(auto)]
 
 mod answer;

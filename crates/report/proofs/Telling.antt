@@ -1,18 +1,21 @@
 -- What the findings of two netlists tell. Assumes nothing.
-use Rattle.std.proofs.Common.{ℕ, true, false, cond, eqb, List, [], sym, append-nil, arith}
+use Rattle.std.proofs.Common.{ℕ, List, [], sym, append-nil, arith}
 use Rattle.algebra.specs.Laws.{Laws}
-use Rattle.algebra.specs.Five.{five, five_laws}
-use Rattle.algebra.specs.Two.{two, two_laws}
+use Rattle.algebra.specs.Five.{five_laws}
+use Rattle.algebra.specs.Two.{two_laws}
 use Rattle.netlist.specs.Lines.{line_signals, outs}
 use Rattle.netlist.specs.Findings.{findings}
 use Rattle.netlist.proofs.LineSignals.{signals_length}
 use Rattle.netlist.proofs.OutValues.{outs_length}
 use Rattle.netlist.proofs.Graded.{verdicts}
+use Rattle.text.specs.declared.header.Values.{Values}
+use Rattle.text.specs.declared.header.Values.TheVariants.{Two, Five}
 use Rattle.text.specs.Answers.{algebra_of}
 use Rattle.report.specs.Reports.{Tells}
 
-algebra_laws : (v : ℕ) → Laws (algebra_of v)
-algebra_laws v = elim (eqb v 2) as (λ b. Laws (cond b two five)) [ true ↦ two_laws | false ↦ five_laws ]
+algebra_laws : (v : Values) → Laws (algebra_of v)
+algebra_laws Two = two_laws
+algebra_laws Five = five_laws
 
 pub tells : (lines : ℕ) (bytes : List ℕ) → Tells lines bytes
 tells lines bytes x y pair a even k h =

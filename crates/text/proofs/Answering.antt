@@ -3,9 +3,6 @@
 use Rattle.std.proofs.Common.{◌≡◌, ℕ, ◌-◌, List, ◌++◌, length, take, drop, Ok, Err, Result, sym, refl, ap, ◌∙◌, subst, arith}
 use lib.ListN.{length-replicate}
 use Rattle.std.proofs.lemmas.List.{take_at}
-use Rattle.std.proofs.lemmas.Bool.{cond-true, cond-false, eq-eqb, ne_eqb}
-use Rattle.algebra.specs.Five.{five}
-use Rattle.algebra.specs.Two.{two}
 use Rattle.netlist.specs.declared.line.Line.{Line}
 use Rattle.text.specs.declared.header.Header.{Header}
 use Rattle.text.specs.declared.header.Pair.{Pair}
@@ -16,12 +13,6 @@ use Rattle.text.specs.declared.fault.PairFault.TheVariants.{First, Second, Trail
 use Rattle.text.specs.Readings.{Accepted, Filled, Reading}
 use Rattle.text.specs.Pairs.{BothAccepted, PairAccepted, PairReading, ReadsPair}
 use Rattle.text.specs.Answers.{algebra_of, blank_lines, Printer, misreading, Prints, misread, read}
-
-pub is_two : (v : ℕ) → v ≡ 2 → two ≡ algebra_of v
-is_two v e = sym (cond-true _ _ _ (eq-eqb v 2 e))
-
-pub is_five : (v : ℕ) → (v ≡ 2 → ⊥) → five ≡ algebra_of v
-is_five v e = sym (cond-false _ _ _ (ne_eqb v 2 e))
 
 -- ---- the same reading into another list of the same length
 

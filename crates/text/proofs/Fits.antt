@@ -13,9 +13,6 @@ in_front text before after end w =
     let e : end ≡ length text = (let q = w.end_is in omega arith) in
     ap (take end) w.after_is ∙ take_at text _ end (sym e)
 
-pub front_within : (text : List ℕ) (before after : List ℕ) (end at n : ℕ) → length before ≡ n → Written text at before after end → end ≤ n
-front_within text before after end at n room w = let f = w.fits in let e = w.end_is in omega arith
-
 pub fault_fits : (number netlist n : ℕ) (line : Option ℕ) (before after : List ℕ) → n ≤ length before → 25 ≤ n → Unwritten (fault_row number netlist line) 0 before after → ⊥
 fault_fits number netlist n line before after room few u = let l = u.long in let r = fault_size number netlist line in omega arith
 

@@ -3,7 +3,7 @@ use Rattle.std.proofs.Common.{◌≡◌, ℕ, suc, ◌+◌, ◌/◌, ◌^◌, �
 use Rattle.std.specs.Option.{SomeIff, unwrap_or}
 use Rattle.std.proofs.lemmas.Nat.{div_below, pow_pos}
 use Rattle.std.proofs.lemmas.List.FromFn.{length-map-range_with_len}
-use Rattle.std.proofs.lemmas.List.{length-append, length-map, length-take-le, map_more, at_drop_more, at_drop_all}
+use Rattle.std.proofs.lemmas.List.{length-append, length-map, length-take-le, map_more, at_drop_more}
 use Rattle.netlist.specs.declared.finding.Difference.{Difference}
 use Rattle.netlist.specs.declared.finding.Finding.{Finding}
 use Rattle.netlist.specs.declared.finding.Finding.TheVariants.{Clean, Differs}
@@ -127,9 +127,6 @@ module _ {X : Type 0} (of : X → Finding) (width : ℕ) (xs : List X) (i : ℕ)
       → findings_size width (map of (drop i xs)) ≡ finding_size width (of x) + findings_size width (map of (drop (i + 1) xs))
   size_more x h e =
       at_drop_more (λ ys. findings_size width (map of ys)) xs i x h ∙ ap (λ y. finding_size width (of y) + findings_size width (map of (drop (i + 1) xs))) (sym e)
-
-  pub size_all : length xs ≤ i → findings_size width (map of (drop i xs)) ≡ 0
-  size_all h = at_drop_all (λ ys. findings_size width (map of ys)) xs i h
 
   -- the row of x after those before it
   pub next_row : (letter : ℕ → ℕ) (x : X) (at e f : ℕ) (s t u : List ℕ) → i < length xs → x ≡ get_or xs i x

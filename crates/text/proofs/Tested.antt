@@ -1,27 +1,19 @@
 -- Which rows fail which test, and that the row of a line, and a HEAD row, hold one content at most. Assumes nothing.
-use Rattle.std.proofs.Common.{◌≡◌, ℕ, ◌<◌, true, List, take, drop, Some, sym, refl, ap, ◌∙◌, subst, arith}
+use Rattle.std.proofs.Common.{◌≡◌, ℕ, ◌<◌, ◌≤◌, true, List, take, drop, Some, sym, refl, ap, ◌∙◌, subst, inl, inr, arith}
 use Rattle.netlist.specs.declared.line.Line.{Line}
+use Rattle.text.specs.declared.header.Values.{Values}
+use Rattle.text.specs.declared.header.Values.TheVariants.{Two, Five}
 use Rattle.text.specs.declared.fault.RowFault.{RowFault}
 use Rattle.text.specs.declared.fault.RowFault.TheVariants.{Incomplete, Word, Field, OutOfTurn, Limits}
 use Rattle.text.specs.Faults.{order, FirstFailed}
 use Rattle.text.specs.Rows.{number_field, operand_field, Framed, word_of}
-use Rattle.text.specs.Netlists.{kind_word, head_word, takes_one, second_operand, Readable, line_row, head_row, LineRow, HeadRow, Allowed, LineTest, HeadTest}
+use Rattle.text.specs.Netlists.{kind_word, head_word, takes_one, second_operand, Readable, line_row, head_row, LineRow, HeadRow, values_number, Allowed, LineTest, HeadTest}
 use Rattle.text.proofs.Guessing.{same_number}
 use Rattle.text.proofs.Words.{word_length, same_kind}
 use Rattle.text.proofs.Framing.{by_fields, at_word, at_first, at_second, row_framed}
 
 -- the first test that fails
 module _ (P : RowFault → Type 0) where
-  pub fails_incomplete : (P Incomplete → ⊥) → FirstFailed P Incomplete
-  fails_incomplete n = record { before = earlier; here = n }
-    where
-      earlier : (test : RowFault) → order test < order Incomplete → P test
-      earlier Incomplete h = absurd (omega arith)
-      earlier Word h = absurd (omega arith)
-      earlier Field h = absurd (omega arith)
-      earlier OutOfTurn h = absurd (omega arith)
-      earlier Limits h = absurd (omega arith)
-
   pub fails_word : P Incomplete → (P Word → ⊥) → FirstFailed P Word
   fails_word p n = record { before = earlier; here = n }
     where
@@ -143,11 +135,12 @@ module _ (s : List ℕ) (n i v m j w : ℕ) (p : HeadRow s n i v) (q : HeadRow s
   pub same_values : v ≡ w
   same_values = same_number 6 v w p.less q.less (sym (head_second n i v) ∙ ap (λ t. take 6 (drop 18 t)) rows ∙ head_second m j w)
 
+pub allowed : (i : ℕ) (v : Values) → i ≤ 60 → Allowed i (values_number v)
+allowed i Two h = (h, inl refl)
+allowed i Five h = (h, inr refl)
+
 -- how the reader of a HEAD row ends; t is the row in its place
 module _ (s t : List ℕ) (e : s ≡ t) (f : Framed s) where
-  pub head_fails_word : (word_of s ≡ head_word → ⊥) → FirstFailed (HeadTest t) Word
-  head_fails_word n = subst (λ u. FirstFailed (HeadTest u) Word) e (fails_word (HeadTest s) f n)
-
   pub head_fails_field : word_of s ≡ head_word → ((n i v : ℕ) → HeadRow s n i v → ⊥) → FirstFailed (HeadTest t) Field
   head_fails_field w none = subst (λ u. FirstFailed (HeadTest u) Field) e (fails_field (HeadTest s) f w (λ q. none q.0 q.1 q.2 q.3))
 

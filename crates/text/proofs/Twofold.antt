@@ -6,15 +6,16 @@ use Rattle.std.proofs.lemmas.Bool.{cond-true, cond-false, lt-ltb, le-ltb, eq-eqb
 use Rattle.netlist.specs.declared.line.Line.{Line}
 use Rattle.text.specs.declared.header.Header.{Header}
 use Rattle.text.specs.declared.header.Pair.{Pair}
+use Rattle.text.specs.declared.header.Values.{Values}
 use Rattle.text.specs.declared.fault.ReadFault.{ReadFault}
 use Rattle.text.specs.declared.fault.PairFault.{PairFault}
 use Rattle.text.specs.declared.fault.PairFault.TheVariants.{First, Second, Trailing, Heads}
-use Rattle.text.specs.Netlists.{Readable, Writable, line_row, head_row, lines_text, netlist_text}
+use Rattle.text.specs.Netlists.{Readable, Writable, line_row, head_row, values_number, lines_text, netlist_text}
 use Rattle.text.specs.Readings.{Stands, Accepted, Reading}
 use Rattle.text.specs.Pairs.{size, Alike, BothAccepted, PairAccepted, PairReading, ReadsPair}
 use Rattle.text.proofs.Tested.{line_framed, head_framed}
 use Rattle.text.proofs.Begun.{head_fits}
-use Rattle.text.proofs.Unique.{begun, functional}
+use Rattle.text.proofs.Unique.{begun, functional, one_number}
 
 lines_length : (m : ℕ) (ls : List Line) → AllByRecursion Readable ls → length (lines_text m ls) ≡ 25 * length ls
 unfolding lines_text
@@ -36,8 +37,8 @@ netlist_length i v ls p =
 -- a netlist that stands in the bytes ends within them
 pub accepted_fits : (bytes : List ℕ) (from : ℕ) (x y : List Line) (g : Header) → Accepted bytes from x y g → from + size g ≤ length bytes
 accepted_fits bytes from x y g p =
-    let b = begun bytes from g.inputs g.values p.lines p.stands in
-    let h = head_fits bytes from (length p.lines) g.inputs g.values b.head in
+    let b = begun bytes from g.inputs (values_number g.values) p.lines p.stands in
+    let h = head_fits bytes from (length p.lines) g.inputs (values_number g.values) b.head in
     let e : length (take (25 * length p.lines) (drop (from + 25) bytes)) ≡ 25 * length p.lines = ap length b.rows ∙ lines_length 0 p.lines b.readable in
     let w = simp (length-take, length-drop) at e in
     let c = p.counted in
@@ -45,17 +46,17 @@ accepted_fits bytes from x y g p =
 
 -- the bytes are the two texts
 pub pair_text : (bytes : List ℕ) (x x' y y' : List Line) (g h : Header) (p : Accepted bytes 0 x x' g) (q : Accepted bytes (size g) y y' h) → size g + size h ≡ length bytes
-    → bytes ≡ netlist_text g.inputs g.values p.lines ++ netlist_text h.inputs h.values q.lines
+    → bytes ≡ netlist_text g.inputs (values_number g.values) p.lines ++ netlist_text h.inputs (values_number h.values) q.lines
 pair_text bytes x x' y y' g h p q e =
-    let a : take (size g) bytes ≡ netlist_text g.inputs g.values p.lines = ap (λ n. take (25 * (n + 1)) bytes) (sym p.counted) ∙ p.stands.text in
+    let a : take (size g) bytes ≡ netlist_text g.inputs (values_number g.values) p.lines = ap (λ n. take (25 * (n + 1)) bytes) (sym p.counted) ∙ p.stands.text in
     let l : length (drop (size g) bytes) ≤ size h = rw (length-drop (size g) bytes) (omega arith) in
-    let b : drop (size g) bytes ≡ netlist_text h.inputs h.values q.lines =
+    let b : drop (size g) bytes ≡ netlist_text h.inputs (values_number h.values) q.lines =
     sym (take_all (size h) (drop (size g) bytes) l) ∙ ap (λ n. take (25 * (n + 1)) (drop (size g) bytes)) (sym q.counted) ∙ q.stands.text in
-    sym (take-append-drop (size g) bytes) ∙ ap (λ t. t ++ drop (size g) bytes) a ∙ ap (λ t. netlist_text g.inputs g.values p.lines ++ t) b
+    sym (take-append-drop (size g) bytes) ∙ ap (λ t. t ++ drop (size g) bytes) a ∙ ap (λ t. netlist_text g.inputs (values_number g.values) p.lines ++ t) b
 
 -- the same reading step by step, each step a function of what was read
 alikeb : Header → Header → Bool
-alikeb g h = eqb g.inputs h.inputs && eqb g.values h.values
+alikeb g h = eqb g.inputs h.inputs && eqb (values_number g.values) (values_number h.values)
 
 answer : List ℕ → Header → Result Header ReadFault → Result Pair PairFault
 answer bytes g (Ok h) = cond (ltb (size g + size h) (length bytes)) (Err Trailing) (cond (alikeb g h) (Ok (record { first = g; second = h })) (Err Heads))
@@ -71,12 +72,12 @@ Steps bytes x x' y y' r = (a : Result Header ReadFault) × Reading bytes 0 x x' 
 not_alike : (g h : Header) → (Alike g h → ⊥) → alikeb g h ≡ false
 unfolding alikeb
 not_alike g h n =
-    ⊎_elim (λ t. let p = and_parts (eqb g.inputs h.inputs) (eqb g.values h.values) t in absurd (n (eqb-true _ _ p.0, eqb-true _ _ p.1))) (λ f. f)
-    (cases_Bool (eqb g.inputs h.inputs && eqb g.values h.values))
+    ⊎_elim (λ t. let p = and_parts (eqb g.inputs h.inputs) (eqb (values_number g.values) (values_number h.values)) t in absurd (n (eqb-true _ _ p.0, one_number _ _ (eqb-true _ _ p.1)))) (λ f. f)
+    (cases_Bool (eqb g.inputs h.inputs && eqb (values_number g.values) (values_number h.values)))
 
 is_alike : (g h : Header) → Alike g h → alikeb g h ≡ true
 unfolding alikeb
-is_alike g h a = and_from (eqb g.inputs h.inputs) (eqb g.values h.values) (eq-eqb _ _ a.0) (eq-eqb _ _ a.1)
+is_alike g h a = and_from (eqb g.inputs h.inputs) (eqb (values_number g.values) (values_number h.values)) (eq-eqb _ _ a.0) (eq-eqb _ _ (ap values_number a.1))
 
 steps : (bytes : List ℕ) (x x' y y' : List Line) (r : Result Pair PairFault) → PairReading bytes x x' y y' r → Steps bytes x x' y y' r
 unfolding answer
@@ -128,19 +129,20 @@ pair_functional bytes x x' x'' y y' y'' r q p p' =
     (l.0, f.1, l.1)
 
 -- the two netlists whose texts the bytes are
-texts_read : (bytes : List ℕ) (x y : List Line) (i v : ℕ) (ls ms : List Line) → Writable i v ls → Writable i v ms → length ls ≤ length x → length ms ≤ length y
-    → bytes ≡ netlist_text i v ls ++ netlist_text i v ms
+texts_read : (bytes : List ℕ) (x y : List Line) (i : ℕ) (v : Values) (ls ms : List Line) → Writable i (values_number v) ls → Writable i (values_number v) ms → length ls ≤ length x → length ms ≤ length y
+    → bytes ≡ netlist_text i (values_number v) ls ++ netlist_text i (values_number v) ms
     → PairAccepted bytes x (ls ++ drop (length ls) x) y (ms ++ drop (length ms) y)
     (record { first = record { lines = length ls; inputs = i; values = v }; second = record { lines = length ms; inputs = i; values = v } })
 texts_read bytes x y i v ls ms s t a b e =
-    let n = netlist_length i v ls s.readable in
-    let m = netlist_length i v ms t.readable in
-    let k = length-append (netlist_text i v ls) (netlist_text i v ms) in
+    let w = values_number v in
+    let n = netlist_length i w ls s.readable in
+    let m = netlist_length i w ms t.readable in
+    let k = length-append (netlist_text i w ls) (netlist_text i w ms) in
     let z = ap length e in
-    let one : Stands bytes 0 i v ls = record { text = ap (take (25 * (length ls + 1))) e ∙ take_at (netlist_text i v ls) _ (25 * (length ls + 1)) n; writable = s } in
-    let two : Stands bytes (25 * (length ls + 1)) i v ms =
+    let one : Stands bytes 0 i w ls = record { text = ap (take (25 * (length ls + 1))) e ∙ take_at (netlist_text i w ls) _ (25 * (length ls + 1)) n; writable = s } in
+    let two : Stands bytes (25 * (length ls + 1)) i w ms =
     record {
-      text = ap (take (25 * (length ms + 1))) (ap (drop (25 * (length ls + 1))) e ∙ drop_at (netlist_text i v ls) _ (25 * (length ls + 1)) n) ∙ take_all (25 * (length ms + 1)) (netlist_text i v ms) (omega arith);
+      text = ap (take (25 * (length ms + 1))) (ap (drop (25 * (length ls + 1))) e ∙ drop_at (netlist_text i w ls) _ (25 * (length ls + 1)) n) ∙ take_all (25 * (length ms + 1)) (netlist_text i w ms) (omega arith);
       writable = t;
     } in
     record {

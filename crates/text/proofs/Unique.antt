@@ -1,17 +1,19 @@
 -- Bytes have one reading at most. Assumes nothing.
-use Rattle.std.proofs.Common.{◌≡◌, ℕ, zero, suc, ◌+◌, ◌-◌, ◌*◌, ◌<◌, ◌≤◌, true, List, [], ◌∷◌, ◌++◌, length, take, drop, Ok, Err, Result, sym, refl, ap, ◌∙◌, subst, ⊎_elim, arith, drop-drop, take_at, drop_at}
+use Rattle.std.proofs.Common.{◌≡◌, ℕ, zero, suc, ◌+◌, ◌-◌, ◌*◌, ◌<◌, ◌≤◌, true, List, [], ◌∷◌, ◌++◌, length, take, drop, Ok, Err, Result, sym, refl, ap, ◌∙◌, subst, ⊎_elim, append_assoc, arith, drop-drop, take_at, drop_at}
 use Rattle.std.specs.List.{AllByRecursion}
-use Rattle.std.proofs.lemmas.List.{take-take, drop-take}
+use Rattle.std.proofs.lemmas.List.{take-take, drop-take, length-take-le, take-append-drop, drop-append-le}
 use Rattle.std.proofs.lemmas.Bool.{cases_order, cases_Bool, cond-false}
 use Rattle.netlist.specs.declared.line.Line.{Line}
 use Rattle.text.specs.declared.header.Header.{Header}
+use Rattle.text.specs.declared.header.Values.{Values}
+use Rattle.text.specs.declared.header.Values.TheVariants.{Two, Five}
 use Rattle.text.specs.declared.fault.RowFault.{RowFault}
 use Rattle.text.specs.declared.fault.RowFault.TheVariants.{Incomplete, Word, Field, OutOfTurn, Limits}
 use Rattle.text.specs.declared.fault.ReadFault.{ReadFault}
 use Rattle.text.specs.declared.fault.ReadFault.TheVariants.{Head, TooManyLines, AtLine}
 use Rattle.text.specs.Rows.{row_at, operand_field, Framed, word_of}
 use Rattle.text.specs.Faults.{order, FirstFailed}
-use Rattle.text.specs.Netlists.{takes_one, second_operand, Readable, Allowed, line_row, head_row, HeadRow, HeadTest, LineTest, lines_text, netlist_text}
+use Rattle.text.specs.Netlists.{takes_one, second_operand, Readable, Allowed, line_row, head_row, HeadRow, HeadTest, LineTest, values_number, lines_text, netlist_text}
 use Rattle.text.specs.Readings.{Stands, Begins, Filled, Accepted, HeadRefused, TooMany, LineRefused, Reading, Reads}
 use Rattle.text.proofs.Guessing.{same_number}
 use Rattle.text.proofs.Words.{same_kind}
@@ -163,40 +165,46 @@ module _ (bytes : List ℕ) (from : ℕ) where
 same_after : (x y z : List Line) (ls ms : List Line) → ls ≡ ms → Filled x y ls → Filled x z ms → y ≡ z
 same_after x y z ls ms e p q = p.after_is ∙ ap (λ l. l ++ drop (length l) x) e ∙ sym q.after_is
 
-same_header : (g h : Header) → g.lines ≡ h.lines → g.inputs ≡ h.inputs → g.values ≡ h.values → g ≡ h
-same_header g h p q r = λ i. record { lines = p i; inputs = q i; values = r i }
+pub one_number : (v w : Values) → values_number v ≡ values_number w → v ≡ w
+one_number Two Two e = refl
+one_number Two Five e = absurd (omega arith)
+one_number Five Two e = absurd (omega arith)
+one_number Five Five e = refl
+
+same_header : (g h : Header) → g.lines ≡ h.lines → g.inputs ≡ h.inputs → values_number g.values ≡ values_number h.values → g ≡ h
+same_header g h p q r = let v = one_number g.values h.values r in λ i. record { lines = p i; inputs = q i; values = v i }
 
 module _ (bytes : List ℕ) (from : ℕ) (x y z : List Line) where
   both_accepted : (g h : Header) → Accepted bytes from x y g → Accepted bytes from x z h → (g ≡ h) × (y ≡ z)
   both_accepted g h p q =
-      let b = begun bytes from g.inputs g.values p.lines p.stands in
-      let c = begun bytes from h.inputs h.values q.lines q.stands in
+      let b = begun bytes from g.inputs (values_number g.values) p.lines p.stands in
+      let c = begun bytes from h.inputs (values_number h.values) q.lines q.stands in
       let s = row_at bytes from in
       let n = length p.lines in
       let m = length q.lines in
-      let e : n ≡ m = same_count s n g.inputs g.values m h.inputs h.values b.head c.head in (
+      let e : n ≡ m = same_count s n g.inputs (values_number g.values) m h.inputs (values_number h.values) b.head c.head in (
         same_header g h (sym p.counted ∙ e ∙ q.counted)
-            (same_inputs s n g.inputs g.values m h.inputs h.values b.head c.head)
-            (same_values s n g.inputs g.values m h.inputs h.values b.head c.head),
-        same_after x y z p.lines q.lines (same_begun bytes from n g.inputs g.values m h.inputs h.values p.lines q.lines b c e) p.filled q.filled,
+            (same_inputs s n g.inputs (values_number g.values) m h.inputs (values_number h.values) b.head c.head)
+            (same_values s n g.inputs (values_number g.values) m h.inputs (values_number h.values) b.head c.head),
+        same_after x y z p.lines q.lines (same_begun bytes from n g.inputs (values_number g.values) m h.inputs (values_number h.values) p.lines q.lines b c e) p.filled q.filled,
       )
 
   accepted_or_head : (g : Header) (f : RowFault) → Accepted bytes from x y g → HeadRefused bytes from x z f → ⊥
   accepted_or_head g f p q =
-      let b = begun bytes from g.inputs g.values p.lines p.stands in
-      no_head_fault bytes from (length p.lines) g.inputs g.values b.head b.allowed x z f q
+      let b = begun bytes from g.inputs (values_number g.values) p.lines p.stands in
+      no_head_fault bytes from (length p.lines) g.inputs (values_number g.values) b.head b.allowed x z f q
 
   accepted_or_many : (g : Header) → Accepted bytes from x y g → TooMany bytes from x z → ⊥
   accepted_or_many g p q =
-      let b = begun bytes from g.inputs g.values p.lines p.stands in
-      not_many bytes from (length p.lines) g.inputs g.values b.head b.allowed x z p.filled.fits q
+      let b = begun bytes from g.inputs (values_number g.values) p.lines p.stands in
+      not_many bytes from (length p.lines) g.inputs (values_number g.values) b.head b.allowed x z p.filled.fits q
 
   accepted_or_line : (g : Header) (due : ℕ) (f : RowFault) → Accepted bytes from x y g → LineRefused bytes from x z due f → ⊥
   accepted_or_line g due f p q =
-      let b = begun bytes from g.inputs g.values p.lines p.stands in
-      let e = same_count (row_at bytes from) (length p.lines) g.inputs g.values q.count q.inputs q.values b.head q.begins.head in
+      let b = begun bytes from g.inputs (values_number g.values) p.lines p.stands in
+      let e = same_count (row_at bytes from) (length p.lines) g.inputs (values_number g.values) q.count q.inputs q.values b.head q.begins.head in
       let k = q.counted in
-      no_line_fault bytes from (length p.lines) g.inputs g.values b.head b.allowed x z p.lines b due f (omega arith) q
+      no_line_fault bytes from (length p.lines) g.inputs (values_number g.values) b.head b.allowed x z p.lines b due f (omega arith) q
 
   head_or_many : (f : RowFault) → HeadRefused bytes from x y f → TooMany bytes from x z → ⊥
   head_or_many f p q = no_head_fault bytes from q.count q.inputs q.values q.head q.allowed x y f p
@@ -259,3 +267,36 @@ reads bytes from x y r p =
           functional bytes from x y (ls ++ drop (length ls) x) r (Ok (record { lines = length ls; inputs = i; values = v })) p
           (record { lines = ls; counted = refl; stands = s; filled = record { fits = l; after_is = refl } });
     }
+
+-- of a reading into the first entries of a list, the whole list; a good HEAD row counts just so many
+module _ (bytes : List ℕ) (from n i v : ℕ) (h : HeadRow (row_at bytes from) n i v) (a : Allowed i v) (x y : List Line) (l : n ≤ length x) where
+  few : length (take n x) ≡ n
+  few = length-take-le n x l
+
+  filled_part : (ls : List Line) → Filled (take n x) y ls → Filled x (y ++ drop n x) ls
+  filled_part ls f =
+      let k = length ls in
+      let w : k ≤ length (take n x) = f.fits in
+      record {
+        fits = omega (arith, few);
+        after_is = ap (λ t. t ++ drop n x) f.after_is ∙ append_assoc ls (drop k (take n x)) (drop n x)
+            ∙ ap (λ t. ls ++ t) (sym (drop-append-le k (take n x) (drop n x) w) ∙ ap (drop k) (take-append-drop n x));
+      }
+
+  pub whole_reading : (r : Result Header ReadFault) → Reading bytes from (take n x) y r → Reading bytes from x (y ++ drop n x) r
+  whole_reading (Ok g) r = record { lines = r.lines; counted = r.counted; stands = r.stands; filled = filled_part r.lines r.filled }
+  whole_reading (Err (Head f)) r = absurd (no_head_fault bytes from n i v h a (take n x) y f r)
+  whole_reading (Err TooManyLines) r = absurd (not_many bytes from n i v h a (take n x) y (omega (arith, few)) r)
+  whole_reading (Err (AtLine due f)) r =
+      record {
+        count = r.count;
+        inputs = r.inputs;
+        values = r.values;
+        lines = r.lines;
+        begins = r.begins;
+        turn = r.turn;
+        counted = r.counted;
+        room = let q = r.room in omega (arith, few, q);
+        failed = r.failed;
+        filled = filled_part r.lines r.filled;
+      }

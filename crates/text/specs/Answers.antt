@@ -1,19 +1,22 @@
 -- What a program prints for bytes that are to be two netlists in a row: the row of the first refusal in reading them, or
 -- what is to be printed of the two. Assumes nothing.
-use Rattle.std.specs.Prelude.{ℕ, cond, List, replicate, Err, ◌==◌}
+use Rattle.std.specs.Prelude.{ℕ, List, replicate, Err}
 use Rattle.algebra.specs.Ops.{Ops}
 use Rattle.algebra.specs.Five.{five}
 use Rattle.algebra.specs.Two.{two}
 use Rattle.netlist.specs.declared.line.Line.{Line}
 use Rattle.text.specs.declared.header.Pair.{Pair}
+use Rattle.text.specs.declared.header.Values.{Values}
+use Rattle.text.specs.declared.header.Values.TheVariants.{Two, Five}
 use Rattle.text.specs.declared.fault.PairFault.{PairFault}
 use Rattle.text.specs.Faults.{pair_fault_number, pair_fault_netlist, pair_fault_line}
 use Rattle.text.specs.Pairs.{PairReading, PairAccepted}
 use Rattle.text.specs.Reports.{fault_row}
 
 -- the algebra of so many values
-abbrev pub algebra_of : ℕ → Ops
-algebra_of values = cond (values == 2) two five
+abbrev pub algebra_of : Values → Ops
+algebra_of Two = two
+algebra_of Five = five
 
 -- a list with room for so many lines
 abbrev pub blank_lines : ℕ → List Line

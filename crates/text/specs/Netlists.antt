@@ -2,6 +2,8 @@
 use Rattle.std.specs.Prelude.{◌≡◌, ℕ, suc, ◌<◌, ◌≤◌, Bool, true, cond, ◌||◌, ◌⊎◌, List, [], ◌∷◌, ◌++◌, length, take, Some, None, codes, Option, ◌==◌, slice_index_or}
 use Rattle.std.specs.List.{AllByRecursion}
 use Rattle.netlist.specs.declared.line.Line.{Line}
+use Rattle.text.specs.declared.header.Values.{Values}
+use Rattle.text.specs.declared.header.Values.TheVariants.{Two, Five}
 use Rattle.text.specs.declared.fault.RowFault.{RowFault}
 use Rattle.text.specs.declared.fault.RowFault.TheVariants.{Incomplete, Word, Field, OutOfTurn, Limits}
 use Rattle.text.specs.Rows.{number_field, row, Framed, word_of}
@@ -52,6 +54,11 @@ pub record HeadRow (s : List ℕ) (count inputs values : ℕ) : Type 0 where
   pub few : inputs < 1000000
   pub less : values < 1000000
   pub text : s ≡ head_row count inputs values
+
+-- the number that stands in a HEAD row for the values
+abbrev pub values_number : Values → ℕ
+values_number Two = 2
+values_number Five = 5
 
 -- at most 60 inputs, and two or five values
 abbrev pub Allowed : ℕ → ℕ → Type 0

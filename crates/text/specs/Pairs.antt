@@ -3,10 +3,11 @@ use Rattle.std.specs.Prelude.{◌≡◌, ℕ, ◌+◌, ◌*◌, ◌<◌, ◌≤�
 use Rattle.netlist.specs.declared.line.Line.{Line}
 use Rattle.text.specs.declared.header.Header.{Header}
 use Rattle.text.specs.declared.header.Pair.{Pair}
+use Rattle.text.specs.declared.header.Values.{Values}
 use Rattle.text.specs.declared.fault.ReadFault.{ReadFault}
 use Rattle.text.specs.declared.fault.PairFault.{PairFault}
 use Rattle.text.specs.declared.fault.PairFault.TheVariants.{First, Second, Trailing, Heads}
-use Rattle.text.specs.Netlists.{Writable, netlist_text}
+use Rattle.text.specs.Netlists.{Writable, values_number, netlist_text}
 use Rattle.text.specs.Readings.{Accepted, Reading}
 
 -- the bytes of a netlist's rows
@@ -27,8 +28,8 @@ pub record PairAccepted (bytes : List ℕ) (x x' y y' : List Line) (pair : Pair)
   pub both : BothAccepted bytes x x' y y' pair.first pair.second
   pub alike : Alike pair.first pair.second
   pub ended : size pair.first + size pair.second ≡ length bytes
-  pub text : bytes ≡ netlist_text pair.first.inputs pair.first.values both.first.lines
-      ++ netlist_text pair.second.inputs pair.second.values both.second.lines
+  pub text : bytes ≡ netlist_text pair.first.inputs (values_number pair.first.values) both.first.lines
+      ++ netlist_text pair.second.inputs (values_number pair.second.values) both.second.lines
 
 -- the first netlist is refused, and the second one not looked at
 pub record FirstRefused (bytes : List ℕ) (x x' y y' : List Line) (fault : ReadFault) : Type 0 where
@@ -68,7 +69,7 @@ PairReading bytes x x' y y' (Err Heads) = Unlike bytes x x' y y'
 pub record ReadsPair (bytes : List ℕ) (x x' y y' : List Line) (r : Result Pair PairFault) : Type 0 where
   pub reading : PairReading bytes x x' y y' r
   pub only : (x'' y'' : List Line) (q : Result Pair PairFault) → PairReading bytes x x'' y y'' q → (q ≡ r) × (x'' ≡ x') × (y'' ≡ y')
-  pub complete : (inputs values : ℕ) (ls ms : List Line) → Writable inputs values ls → Writable inputs values ms → length ls ≤ length x → length ms ≤ length y
-      → bytes ≡ netlist_text inputs values ls ++ netlist_text inputs values ms
+  pub complete : (inputs : ℕ) (values : Values) (ls ms : List Line) → Writable inputs (values_number values) ls → Writable inputs (values_number values) ms → length ls ≤ length x → length ms ≤ length y
+      → bytes ≡ netlist_text inputs (values_number values) ls ++ netlist_text inputs (values_number values) ms
       → (r ≡ Ok (record { first = record { lines = length ls; inputs = inputs; values = values }; second = record { lines = length ms; inputs = inputs; values = values } }))
       × (x' ≡ ls ++ drop (length ls) x) × (y' ≡ ms ++ drop (length ms) y)

@@ -3,12 +3,13 @@ use Rattle.std.specs.Prelude.{◌≡◌, ℕ, ◌+◌, ◌*◌, ◌<◌, ◌≤�
 use Rattle.std.specs.List.{AllByRecursion}
 use Rattle.netlist.specs.declared.line.Line.{Line}
 use Rattle.text.specs.declared.header.Header.{Header}
+use Rattle.text.specs.declared.header.Values.{Values}
 use Rattle.text.specs.declared.fault.RowFault.{RowFault}
 use Rattle.text.specs.declared.fault.ReadFault.{ReadFault}
 use Rattle.text.specs.declared.fault.ReadFault.TheVariants.{Head, TooManyLines, AtLine}
 use Rattle.text.specs.Rows.{row_at}
 use Rattle.text.specs.Faults.{FirstFailed}
-use Rattle.text.specs.Netlists.{Readable, Writable, Allowed, HeadRow, HeadTest, LineTest, lines_text, netlist_text}
+use Rattle.text.specs.Netlists.{Readable, Writable, Allowed, HeadRow, HeadTest, LineTest, values_number, lines_text, netlist_text}
 
 -- the text of a netlist stands in the bytes from a place on
 pub record Stands (bytes : List ℕ) (from inputs values : ℕ) (lines : List Line) : Type 0 where
@@ -31,7 +32,7 @@ pub record Filled (before after lines : List Line) : Type 0 where
 pub record Accepted (bytes : List ℕ) (from : ℕ) (before after : List Line) (header : Header) : Type 0 where
   pub lines : List Line
   pub counted : length lines ≡ header.lines
-  pub stands : Stands bytes from header.inputs header.values lines
+  pub stands : Stands bytes from header.inputs (values_number header.values) lines
   pub filled : Filled before after lines
 
 -- there is no good HEAD row
@@ -74,5 +75,5 @@ Reading bytes from before after (Err (AtLine due fault)) = LineRefused bytes fro
 pub record Reads (bytes : List ℕ) (from : ℕ) (before after : List Line) (r : Result Header ReadFault) : Type 0 where
   pub reading : Reading bytes from before after r
   pub only : (later : List Line) (q : Result Header ReadFault) → Reading bytes from before later q → (q ≡ r) × (later ≡ after)
-  pub complete : (inputs values : ℕ) (lines : List Line) → Stands bytes from inputs values lines → length lines ≤ length before
+  pub complete : (inputs : ℕ) (values : Values) (lines : List Line) → Stands bytes from inputs (values_number values) lines → length lines ≤ length before
       → (r ≡ Ok (record { lines = length lines; inputs = inputs; values = values })) × (after ≡ lines ++ drop (length lines) before)

@@ -34,12 +34,12 @@ pub enum ReadFault {
     Head(RowFault),
     // It has more lines than the list that is lent for them.
     TooManyLines,
-    // The row of the line that is due.
+    // The row of the line that is due, with its number, a u32 as rows show it.
     AtLine(u32, RowFault),
 }
 
 impl ReadFault {
-    // The number of the refusal.
+    // The number of the refusal; no cast gives it, since a row's fault has its own.
     pub fn number(self) -> u8
         ensures { result ≡ read_fault_number self }
     {
@@ -81,7 +81,7 @@ pub enum PairFault {
 }
 
 impl PairFault {
-    // The number of the refusal.
+    // The number of the refusal; no cast gives it, since a netlist's fault has its own.
     pub fn number(self) -> u8
         ensures { result ≡ pair_fault_number self }
     {

@@ -1,3 +1,5 @@
+// A field is read by a guess: its bytes come to one number at most, which is written again and compared. So the writers
+// alone say what a field looks like.
 ghost use Rattle.std.specs.Prelude.{◌≡◌, ℕ, ◌^◌, ◌<◌, true, length, Some, MatchOption, ◌≢◌};
 ghost use Rattle.netlist.specs.Kinds.{kind_number};
 ghost use Rattle.text.specs.Rows.{operand_field};
@@ -5,9 +7,6 @@ ghost use Rattle.text.specs.Guesses.{columns, digit_value, guessed};
 ghost use Rattle.text.specs.Netlists.{kind_word, second_operand, takes_one};
 
 use netlist::Kind;
-
-// A field is read by a guess: its bytes come to one number at most, which is written again and compared. So the writers
-// alone say what a field looks like.
 
 // A number in so many columns. Where it is too long, its last digits are shown.
 pub(crate) fn columns<const N: usize>(n: u64) -> [u8; N]

@@ -10,7 +10,7 @@ mod row;
 mod writer;
 
 pub use fault::{PairFault, ReadFault, RowFault};
-pub use header::{Header, Pair};
+pub use header::{Header, Pair, Values};
 pub use pairs::read_pair;
 pub use reader::read_netlist;
 pub use writer::{Summary, write_fault, write_findings, write_summary};

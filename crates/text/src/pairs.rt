@@ -14,6 +14,7 @@ fn text_size(header: Header) -> usize
     ROW * (header.lines as usize + 1)
 }
 
+// Whether the HEAD rows agree. Not `==`: the netlists may differ in how many lines they have.
 fn alike(one: Header, two: Header) -> bool
     ensures { Decides result (Alike one two) }
 {

@@ -1,11 +1,11 @@
-ghost use Rattle.std.specs.Prelude.{◌≡◌, ◌<◌, Decides, MatchOption, MatchResult};
+ghost use Rattle.std.specs.Prelude.{◌≡◌, ◌<◌, ◌≤◌, MatchOption, MatchResult};
 ghost use Rattle.text.specs.Rows.{row_at, Framed};
 ghost use Rattle.text.specs.Faults.{FirstFailed};
-ghost use Rattle.text.specs.Netlists.{Readable, line_row, LineTest, HeadRow, HeadTest, Allowed};
+ghost use Rattle.text.specs.Netlists.{Readable, line_row, LineTest, HeadRow, HeadTest, values_number};
 
 use crate::fault::RowFault;
 use crate::field::{read_kind, read_number, read_second};
-use crate::header::Header;
+use crate::header::{Header, Values};
 use netlist::Line;
 
 // A row with its line feed.
@@ -19,33 +19,27 @@ fn row_at(bytes: &[u8], at: usize) -> Option<&[u8]>
     (row[5] == b' ' && row[24] == b'\n').then_some(row)
 }
 
-// Whether a netlist may have so many inputs and values.
-fn allowed(inputs: u32, values: u32) -> bool
-    ensures { Decides result (Allowed inputs values) }
-{
-    inputs <= 60 && (values == 2 || values == 5)
-}
-
 // The HEAD row at a place.
 pub(crate) fn read_head(bytes: &[u8], at: usize) -> Result<Header, RowFault>
     ensures { MatchResult result
-        (λ h. HeadRow (row_at bytes.now at) h.lines h.inputs h.values × Allowed h.inputs h.values)
+        (λ h. HeadRow (row_at bytes.now at) h.lines h.inputs (values_number h.values) × (h.inputs ≤ 60))
         (FirstFailed (HeadTest (row_at bytes.now at))) }
 {
     let row = row_at(bytes, at).ok_or(RowFault::Incomplete)?;
     if &row[6..12] != b"HEAD  ".as_slice() {
         return Err(RowFault::Word);
     }
-    let lines = read_number::<5>(&row[0..5]).ok_or(RowFault::Field)?;
+    let lines = read_number::<5>(&row[..5]).ok_or(RowFault::Field)?;
     let inputs = read_number::<6>(&row[12..18]).ok_or(RowFault::Field)?;
-    let values = read_number::<6>(&row[18..24]).ok_or(RowFault::Field)?;
-    if !allowed(inputs, values) {
+    let number = read_number::<6>(&row[18..24]).ok_or(RowFault::Field)?;
+    let values = Values::of(number).ok_or(RowFault::Limits)?;
+    if inputs > 60 {
         return Err(RowFault::Limits);
     }
     Ok(Header {
         lines,
         inputs: inputs as u8,
-        values: values as u8,
+        values,
     })
 }
 
@@ -58,7 +52,7 @@ pub(crate) fn read_line(bytes: &[u8], at: usize, due: u32) -> Result<Line, RowFa
 {
     let row = row_at(bytes, at).ok_or(RowFault::Incomplete)?;
     let kind = read_kind(&row[6..12]).ok_or(RowFault::Word)?;
-    let number = read_number::<5>(&row[0..5]).ok_or(RowFault::Field)?;
+    let number = read_number::<5>(&row[..5]).ok_or(RowFault::Field)?;
     let first = read_number::<6>(&row[12..18]).ok_or(RowFault::Field)?;
     let second = read_second(kind, &row[18..24]).ok_or(RowFault::Field)?;
     if number != due {

@@ -1,10 +1,16 @@
+// The bytes and the place in them stay two parameters: of a struct of both, each contract would say besides that it still
+// holds the reference that the caller lent.
 ghost use Rattle.std.specs.Prelude.{◌≡◌, ◌+◌, ◌<◌, ◌≤◌, map, length, Decides, MatchOption};
 ghost use Rattle.netlist.specs.Signals.{bit};
 ghost use Rattle.text.specs.Reports.{summary_word, summary_row, bits, difference, finding_row, findings_text, finding_size, findings_size, fault_row, Written, Unwritten};
 
 use crate::field::{columns, operand_bytes};
+use crate::row::ROW;
 use algebra::Algebra;
 use netlist::{Difference, Finding, HasFinding};
+
+// The first row of a report with its line feed.
+const SUMMARY: usize = 19;
 
 // The word in the first row of a report: what its second number counts.
 #[derive(Clone, Copy, PartialEq, Eq, Debug)]
@@ -33,9 +39,6 @@ fn has_room(len: usize, at: usize, size: usize) -> bool
     size <= len && at <= len - size
 }
 
-// The bytes and the place in them stay two parameters: of a struct of both, each contract would say besides that it still
-// holds the reference that the caller lent.
-
 // Writes a text that fits, and answers its end.
 fn put(out: &mut [u8], at: usize, text: &[u8]) -> usize
     requires { at + length text.now ≤ length out.old }
@@ -58,7 +61,7 @@ pub fn write_summary(
         (Unwritten (summary_row pairs word number) at out.old out.new)
         (Written (summary_row pairs word number) at out.old out.new) }
 {
-    if !has_room(out.len(), at, 19) {
+    if !has_room(out.len(), at, SUMMARY) {
         return None;
     }
     let spaced = put(out, at, &columns::<5>(u64::from(pairs)));
@@ -68,7 +71,8 @@ pub fn write_summary(
     Some(put(out, ended, b"\n"))
 }
 
-// The row of a refusal, "   28 FAULT      1     7" and its line feed.
+// The row of a refusal, "   28 FAULT      1     7" and its line feed. It takes the numbers that stand in the row, since
+// faults of several crates, each of a type of its own, are written.
 pub fn write_fault(
     out: &mut [u8],
     at: usize,
@@ -80,7 +84,7 @@ pub fn write_fault(
         (Unwritten (fault_row number netlist line) at out.old out.new)
         (Written (fault_row number netlist line) at out.old out.new) }
 {
-    if !has_room(out.len(), at, 25) {
+    if !has_room(out.len(), at, ROW) {
         return None;
     }
     let spaced = put(out, at, &columns::<5>(u64::from(number)));
@@ -90,7 +94,7 @@ pub fn write_fault(
     Some(put(out, ended, b"\n"))
 }
 
-// The character of an input's bit in a pattern of a width.
+// The character of an input's bit in a pattern of a width. A `Pattern` is below 2 ^ width; here any number is written.
 fn bit_digit(width: u8, pattern: u64, input: u8) -> u8
     requires { input < width }
     ensures { result ≡ 48 + bit width pattern input }
@@ -111,7 +115,7 @@ fn fill_bits(digits: &mut [u8], width: u8, pattern: u64)
     }
 }
 
-// The same at a place, and answers their end.
+// Writes the bits of a pattern at a place, input 0 first, and answers their end.
 fn put_bits(out: &mut [u8], at: usize, width: u8, pattern: u64) -> usize
     requires { at + width ≤ length out.old }
     ensures { Written (bits width pattern) at out.old out.new result }
@@ -121,6 +125,8 @@ fn put_bits(out: &mut [u8], at: usize, width: u8, pattern: u64) -> usize
     end
 }
 
+// The bytes of a finding's row: the number's five columns, a blank, a letter and the line feed, or for a pair that differs
+// three letters, each after a blank, a blank and the bits.
 fn size_of_row(width: u8, finding: Finding) -> usize
     ensures { result ≡ finding_size width finding }
 {
@@ -134,6 +140,7 @@ fn size_of_row(width: u8, finding: Finding) -> usize
 fn rows_fit<F: HasFinding>(room: usize, width: u8, findings: &[F]) -> bool
     ensures { Decides result (findings_size width (map F.of findings.now) ≤ room) }
 {
+    // The rest of the room is kept by hand: what `try_fold` over the rows answers did not prove.
     let mut left = room;
     for row in findings {
         let Some(rest) = left.checked_sub(size_of_row(width, row.finding())) else {
@@ -199,6 +206,7 @@ pub fn write_findings<G: Algebra, F: HasFinding>(
     if !rows_fit(room, width, findings) {
         return None;
     }
+    // The end is kept by hand: of a fold whose closure writes the bytes, a proof knows nothing about them.
     let mut end = at;
     for (number, row) in findings.iter().enumerate() {
         end = put_finding(algebra, out, end, width, number, row.finding());

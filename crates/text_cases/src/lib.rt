@@ -6,7 +6,9 @@ mod tests {
     use algebra::FiveValued;
     use netlist::{Difference, Finding, Line};
     use std::test::Fail;
-    use text::{Summary, read_netlist, read_pair, write_fault, write_findings, write_summary};
+    use text::{
+        Summary, Values, read_netlist, read_pair, write_fault, write_findings, write_summary,
+    };
 
     // The refusal of one netlist, with room for two lines.
     fn refusal(bytes: &[u8]) -> Option<u8> {
@@ -32,7 +34,9 @@ mod tests {
         let mut lines = [Line::default(); 5];
         match read_netlist(text, 0, &mut lines) {
             Ok(header) => {
-                assert!(rt; header.lines == 4 && header.inputs == 2 && header.values == 5);
+                assert!(rt;
+                    header.lines == 4 && header.inputs == 2 && header.values == Values::Five
+                );
                 assert!(rt; lines[1].kind == 1 && lines[1].first == 3 && lines[1].second == 0);
                 assert!(rt; lines[2].kind == 6 && lines[2].first == 0 && lines[2].second == 1);
                 assert!(rt; lines[3].kind == 8 && lines[3].first == 2);

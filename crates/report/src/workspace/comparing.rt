@@ -8,7 +8,7 @@ ghost use Rattle.report.specs.Reports.{bytes_needed, compared, Printed};
 use super::Workspace;
 use algebra::{Algebra, FiveValued, TwoValued};
 use comparison::{CompareFault, compare};
-use text::{Pair, Summary, read_pair, write_fault, write_findings, write_summary};
+use text::{Pair, Summary, Values, read_pair, write_fault, write_findings, write_summary};
 
 // The line or the pair that is refused.
 fn refused_place(fault: CompareFault) -> Option<usize>
@@ -72,8 +72,10 @@ impl Workspace {
                 fault.netlist(),
                 fault.line(),
             ).unwrap(),
-            Ok(pair) if pair.first.values == 2 => self.put_comparison(&TwoValued, pair, out),
-            Ok(pair) => self.put_comparison(&FiveValued, pair, out),
+            Ok(pair) => match pair.first.values {
+                Values::Two => self.put_comparison(&TwoValued, pair, out),
+                Values::Five => self.put_comparison(&FiveValued, pair, out),
+            },
         }
     }
 }

@@ -1,14 +1,11 @@
-use Rattle.std.proofs.Common.{◌≡◌, ◌+◌, ◌*◌, take, Ok, Err, refl, ◌∙◌, arith, rules}
-use Rattle.std.proofs.lemmas.List.{length-set, length-take-le}
-use Rattle.std.proofs.lemmas.Result.{MatchResult-weaker, MatchResult-at_ok, MatchResult-at_err, err_from_is_err_and}
-use Rattle.text.specs.declared.fault.ReadFault.TheVariants.{TooManyLines, AtLine}
-use Rattle.text.specs.Rows.{row_at}
-use Rattle.text.specs.Faults.{FirstFailed}
-use Rattle.text.specs.Netlists.{Readable, line_row, LineTest}
-use Rattle.text.specs.Readings.{Accepted, TooMany}
-use Rattle.text.proofs.Begun.{head_fits, line_fits, begins_none, begins_set, stands, filled, rest_set, refused_at, refused_head}
-use Rattle.text.proofs.Steps.{mapped_ok, mapped_err}
-use Rattle.text.proofs.Unique.{reads}
+use Rattle.std.proofs.Common.{Err, refl}
+use Rattle.std.proofs.lemmas.Result.{err_from_is_err_and}
+use Rattle.text.specs.declared.fault.ReadFault.TheVariants.{TooManyLines}
+use Rattle.text.specs.Netlists.{values_number}
+use Rattle.text.specs.Readings.{TooMany}
+use Rattle.text.proofs.Tested.{allowed}
+use Rattle.text.proofs.Begun.{refused_head}
+use Rattle.text.proofs.Unique.{reads, whole_reading}
 use Rattle.text.proofs.reader.read_netlist.Goals as goal
 
 pub returns-in_err-header : goal.returns-in_err-header
@@ -26,66 +23,15 @@ returns-then-header-lines c =
     record {
       count = c.in_ok-header.header.lines;
       inputs = c.in_ok-header.header.inputs;
-      values = c.in_ok-header.header.values;
+      values = values_number c.in_ok-header.header.values;
       head = q.0;
-      allowed = q.1;
+      allowed = allowed _ c.in_ok-header.header.values q.1;
       long = c.if-header-lines.true;
       kept = refl;
     } in
     reads c.args.bytes.now c.args.from c.args.lines.now c.args.lines.now (Err TooManyLines) h
 
-pub loop-due-init : goal.loop-due-init
-loop-due-init c =
-    let h = c.in_ok-header.ensures in
-    (begins_none c.args.bytes.now c.args.from _ _ _ h.0 h.1, head_fits c.args.bytes.now c.args.from _ _ _ h.0, refl, c.if-header-lines.false)
-
-pub loop-due-preserved : goal.loop-due-preserved
-loop-due-preserved c =
-    let bytes = c.args.bytes.now in
-    let d = c.loop-due.due in
-    let at = c.args.from + 25 * (d + 1) in
-    let l = c.in_ok-line.line in
-    let i = c.loop-due.invariant in
-    let q = MatchResult-at_ok (λ l. Readable l × (row_at bytes at ≡ line_row d l)) (FirstFailed (LineTest d (row_at bytes at))) l
-    (mapped_ok _ c.read_line.result l c.in_ok-line.ensures.cases) c.read_line.ensures in
-    let f = line_fits bytes at d l q.0 q.1 in
-    let s = length-set c.loop-due.lines d l in
-    (begins_set bytes c.args.from _ _ _ c.loop-due.lines d at l (omega arith) i.0 q.0 refl q.1, omega arith, rest_set c.args.lines.now c.loop-due.lines d l i.2, omega arith)
-
-pub returns-in_err-line : goal.returns-in_err-line
-returns-in_err-line c =
-    let bytes = c.args.bytes.now in
-    let d = c.loop-due.due in
-    let at = c.args.from + 25 * (d + 1) in
-    let i = c.loop-due.invariant in
-    let x = mapped_err (λ e d. d ≡ AtLine c.loop-due.due e) c.read_line.result c.in_err-line.field-0.0 (MatchResult-weaker c.read_line.result c.in_err-line.ensures.cases (λ y q. q) (λ e q. search rules)) in
-    let p = err_from_is_err_and c.from_residual-in_err-line.result c.from_residual-in_err-line.ensures.1 in
-    let h = refused_at bytes c.args.from c.args.lines.now c.loop-due.lines _ _ d x.0 p.1 (p.2 ∙ x.2)
-    (record {
-      count = c.in_ok-header.header.lines;
-      inputs = c.in_ok-header.header.inputs;
-      values = c.in_ok-header.header.values;
-      lines = take d c.loop-due.lines;
-      begins = i.0;
-      turn = length-take-le d c.loop-due.lines (omega arith);
-      counted = c.loop-due-test.true;
-      room = omega arith;
-      failed = MatchResult-at_err (λ l. Readable l × (row_at bytes at ≡ line_row d l)) (FirstFailed (LineTest d (row_at bytes at))) x.0 x.1 c.read_line.ensures;
-      filled = filled c.args.lines.now c.loop-due.lines d (omega arith) c.loop-due.auto.lines i.2;
-    }) in
-    reads bytes c.args.from c.args.lines.now c.loop-due.lines c.from_residual-in_err-line.result h
-
 pub returns : goal.returns
 returns c =
-    let i = c.loop-due.invariant in
-    let d = c.loop-due.due in
-    let e : d ≡ c.in_ok-header.header.lines = omega arith in
-    let k = length-take-le d c.loop-due.lines (omega arith) in
-    let h : Accepted c.args.bytes.now c.args.from c.args.lines.now c.loop-due.lines c.in_ok-header.header =
-    record {
-      lines = take d c.loop-due.lines;
-      counted = k ∙ e;
-      stands = stands c.args.bytes.now c.args.from _ _ _ (take d c.loop-due.lines) (k ∙ e) i.0;
-      filled = filled c.args.lines.now c.loop-due.lines d (omega arith) c.loop-due.auto.lines i.2;
-    } in
-    reads c.args.bytes.now c.args.from c.args.lines.now c.loop-due.lines (Ok c.in_ok-header.header) h
+    let q = c.in_ok-header.ensures in
+    reads _ _ _ _ _ (whole_reading _ _ _ _ _ q.0 (allowed _ c.in_ok-header.header.values q.1) _ _ c.if-header-lines.false _ c.read_lines.ensures)
