@@ -179,9 +179,6 @@ Leads o s h v x = Sound o s → Lawful o s h → Occurs o s h v → first s.inpu
 leads_same : {o : Ops} {s : Store} (g h u v x : ℕ) → g ≡ h → u ≡ v → Leads o s g u x → Leads o s h v x
 leads_same {o} {s} g h u v x e d l = subst (λ k. Leads o s h k x) d (subst (λ k. Leads o s k u x) e l)
 
-pub under_code : {o : Ops} → Laws o → (h v u : ℕ) → u ≡ under_mark o h v → v < o.count → u < o.count
-under_code {o} laws h v u e c = rw e (cond_both (marked h) (o.turn v) v (λ k. k < o.count) (λ _. laws.turn_below v) (λ _. c))
-
 -- one step of it: of a place whose record is r, with the value u wanted below its mark, and m the reach of its 0 side
 module _ {o : Ops} (laws : Laws o) {s : Store} (w : Well s) (h v u m : ℕ) (r : Record) (large : 16 ≤ h) (within : Within s h) (read : r ≡ s.at (place h))
     (turned : u ≡ under_mark o h v) (reach : m ≡ reach_of o s r.low) where

@@ -20,24 +20,6 @@ use Rattle.records.proofs.Cofactors.{cofactor_within, cofactor_deeper, cofactor_
 pub tests_large : (s : Store) (h i : ℕ) → level s h ≡ i → i < s.inputs → 16 ≤ h
 tests_large s h i e l = ⊎_elim (λ c. absurd (omega (arith, level_constant s h c))) (λ c. c) (cases_lt h 16)
 
--- from the sides as stored
-pub split_passes : (o : Ops) (s : Store) (h i b g : ℕ) → (level s h ≡ i → ⊥) → g ≡ cond (eqb (level s h) i) (side (s.at (place h)) b) h → g ≡ cofactor_at o s h i b
-split_passes o s h i b g ne e =
-    let t = ne_eqb (level s h) i ne in
-    e ∙ cond-false (eqb (level s h) i) (side (s.at (place h)) b) h t ∙ sym (cond-false (eqb (level s h) i) (cofactor o s h b) h t)
-
-pub split_plain : (o : Ops) (s : Store) (h i b g : ℕ) → level s h ≡ i → marked h ≡ false → g ≡ cond (eqb (level s h) i) (side (s.at (place h)) b) h → g ≡ cofactor_at o s h i b
-split_plain o s h i b g l m e =
-    let t = eq-eqb (level s h) i l in
-    let k = side (s.at (place h)) b in
-    e ∙ cond-true (eqb (level s h) i) k h t ∙ sym (cond-true (eqb (level s h) i) (cofactor o s h b) h t ∙ cond-false (marked h) (negate o s k) k m)
-
-pub split_marked : (o : Ops) (s : Store) (h i b g r : ℕ) → level s h ≡ i → marked h ≡ true → g ≡ cond (eqb (level s h) i) (side (s.at (place h)) b) h → r ≡ negate o s g → r ≡ cofactor_at o s h i b
-split_marked o s h i b g r l m e d =
-    let t = eq-eqb (level s h) i l in
-    let k = side (s.at (place h)) b in
-    d ∙ ap (negate o s) (e ∙ cond-true (eqb (level s h) i) k h t) ∙ sym (cond-true (eqb (level s h) i) (cofactor o s h b) h t ∙ cond-true (marked h) (negate o s k) k m)
-
 -- g is what is left of h when the bit of input i is b
 pub record Half (o : Ops) (s : Store) (i b h g : ℕ) : Type 0 where
   pub beyond : Beyond s i g

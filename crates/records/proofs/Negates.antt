@@ -150,16 +150,3 @@ module _ {o : Ops} (laws : Laws o) {s : Store} (w : Well s) (sound : Sound o s) 
       (cases_Bool (marked h)))
       (cases_Bool (may_mark o (s.at p).reach)))
       (cases_lt h 16)
-
-  pub negate_settled : (h : ℕ) → Lawful o s h → SettledAlone o s h → SettledAlone o s (negate o s h)
-  negate_settled h l alone q k =
-      subst (λ v. T (o.settled v)) (sym (negate_value h q l alone k)) (laws.turn_settled (value o s h q) (codes laws w sound h q l) (alone q k))
-
-  -- twice NOT is the handle
-  pub negate_twice : (h : ℕ) → Lawful o s h → SettledAlone o s h → negate o s (negate o s h) ≡ h
-  negate_twice h l alone =
-      one_number laws w sound _ h (negate_lawful (negate o s h) (negate_lawful h l)) l
-      (λ q k.
-      negate_value (negate o s h) q (negate_lawful h l) (negate_settled h l alone) k
-      ∙ ap o.turn (negate_value h q l alone k)
-      ∙ laws.turn_back (value o s h q) (codes laws w sound h q l) (alone q k))

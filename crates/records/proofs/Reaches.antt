@@ -107,18 +107,6 @@ up_turned_from o m (suc k) v e =
     (λ d. up_turned_from o m k v (ap (λ z. up z v) (sym (cond-false (up m k) (bit_or rest (2 ^ o.turn k)) rest d)) ∙ e))
     (cases_Bool (up m k))
 
--- no mask has a bit past the last code
-pub turn_mask_fits : {o : Ops} → Laws o → (m : ℕ) → turn_mask o m < 2 ^ 16
-unfolding turn_below
-turn_mask_fits {o} laws m = fits 16
-  where
-    fits : (k : ℕ) → turn_below o m k < 2 ^ 16
-    fits zero = pow_pos 16
-    fits (suc k) =
-        cond_both (up m k) (bit_or (turn_below o m k) (2 ^ o.turn k)) (turn_below o m k) (λ x. x < 2 ^ 16)
-        (λ _. or_lt 16 (turn_below o m k) (2 ^ o.turn k) (fits k) (pow_below (o.turn k) 16 (omega (arith, laws.turn_below k, laws.sixteen_at_most))))
-        (λ _. fits k)
-
 -- a handle that is the NOT of another reaches the NOT of its values
 pub reach_turned : {o : Ops} → Laws o → (s : Store) (g h m : ℕ) → ((q : ℕ) → value o s g q < o.count)
     → ((q : ℕ) → q < 2 ^ s.inputs → value o s h q ≡ o.turn (value o s g q)) → Reach o s g m → Reach o s h (turn_mask o m)
