@@ -18,7 +18,7 @@ use Rattle.records.proofs.Values.{unmarked_handle, lawful_place, lawful_within, 
 use Rattle.records.proofs.Canon.{marked_settled}
 use Rattle.records.proofs.Distinct.{places_agree, places_opposite, place_varies}
 use Rattle.records.proofs.Adds.{added_grows}
-use Rattle.records.proofs.Makes.{well_made, made_within, made_level, made_place, made_same, made_found, made_added}
+use Rattle.records.proofs.Makes.{well_made, made_within, made_level, made_place, made_found, made_added}
 
 module _ {o : Ops} (laws : Laws o) {s : Store} (w : Well s) (sound : Sound o s) where
   -- no two places are one part

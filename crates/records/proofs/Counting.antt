@@ -8,7 +8,7 @@ use Rattle.records.specs.Counts.{OnePart, PartOf, PartIn, nth, DifferentParts, A
 use Rattle.records.proofs.Pigeons.{pigeonhole_by}
 use Rattle.records.proofs.Alike.{agree_refl, one_refl, one_sym, one_trans, one_varies}
 use Rattle.records.proofs.Anys.{Any, any_at, any_place, any_map, any_from_map, any_concat, any_from_concat}
-use Rattle.records.proofs.Pieces.{in_parts, from_parts, part_of_agree, part_trans, one_of_parts}
+use Rattle.records.proofs.Pieces.{in_parts, from_parts, part_of_agree}
 use Rattle.records.proofs.Sieve.{apart_places, different_among, different_vary, different_apart, different_covers}
 
 -- all parts of the signals, and the different ones

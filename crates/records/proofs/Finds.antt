@@ -2,14 +2,14 @@
 -- Assumes nothing.
 use Rattle.std.proofs.Common.{◌≡◌, ℕ, ◌+◌, ◌-◌, ◌*◌, ◌%◌, ◌^◌, ◌<◌, ◌≤◌, true, false, eqb, Some, None, Option, sym, refl, ap, ◌∙◌, subst, ⊎_elim, mod-eq_of_lt, arith, pow_mono}
 use Rattle.std.proofs.lemmas.Nat.{pow_pos, pow-add}
-use Rattle.std.proofs.lemmas.Bool.{cases_lt, cases_order, eq-eqb, eqb-true, both_ways, cond_both}
+use Rattle.std.proofs.lemmas.Bool.{cases_lt, cases_order, eq-eqb, eqb-true, both_ways}
 use Rattle.algebra.specs.Ops.{Ops}
 use Rattle.algebra.specs.Laws.{Laws}
 use Rattle.netlist.specs.Signals.{Signal, bit}
 use Rattle.netlist.specs.Findings.{first}
 use Rattle.netlist.proofs.Searches.{first_found, first_least, first_none}
 use Rattle.records.specs.declared.record.Record.{Record}
-use Rattle.records.specs.Stores.{Store, handle, place, marked, level, under_mark, value, up}
+use Rattle.records.specs.Stores.{Store, handle, place, level, under_mark, value, up}
 use Rattle.records.specs.Rules.{Placed, Well, Sound, Lawful, Occurs}
 use Rattle.records.specs.Changes.{Within}
 use Rattle.records.specs.Marks.{reach_of}

@@ -1,14 +1,14 @@
 -- A handle split at an input that it tests first or not at all. Assumes nothing.
-use Rattle.std.proofs.Common.{◌≡◌, ℕ, ◌+◌, ◌^◌, ◌<◌, ◌≤◌, min, true, false, cond, eqb, sym, refl, ap, ◌∙◌, subst, ⊎_elim, arith}
-use Rattle.std.proofs.lemmas.Bool.{cases_lt, cases_Bool, cond-true, cond-false, eqb-true, eqb-false, eq-eqb, ne_eqb}
+use Rattle.std.proofs.Common.{◌≡◌, ℕ, ◌+◌, ◌^◌, ◌<◌, ◌≤◌, min, eqb, sym, refl, ap, ◌∙◌, subst, ⊎_elim, arith}
+use Rattle.std.proofs.lemmas.Bool.{cases_lt, cases_Bool, cond-true, cond-false, eqb-true, eqb-false}
 use Rattle.algebra.specs.Ops.{Ops}
 use Rattle.algebra.specs.Laws.{Laws}
 use Rattle.netlist.specs.Signals.{bit}
 use Rattle.records.specs.declared.row.Row.{Row}
-use Rattle.records.specs.Stores.{Store, place, marked, level, side, value}
+use Rattle.records.specs.Stores.{Store, level, value}
 use Rattle.records.specs.Rules.{Well, Sound, Lawful}
 use Rattle.records.specs.Changes.{Within}
-use Rattle.records.specs.Marks.{negate, cofactor}
+use Rattle.records.specs.Marks.{cofactor}
 use Rattle.records.specs.Makings.{Beyond}
 use Rattle.records.specs.Walks.{cofactor_at, Cut}
 use Rattle.records.proofs.Bits.{fixed}

@@ -1,19 +1,13 @@
 -- What the steps of the reading calls read, against the values of handles. Assumes nothing.
-use Rattle.std.proofs.Common.{◌≡◌, ℕ, ◌<◌, ◌≤◌, Bool, true, eqb, Decides, Option, sym, ap, ◌∙◌, arith}
-use Rattle.std.proofs.lemmas.Bool.{cond-true, cond-false, eq-eqb, ne_eqb}
+use Rattle.std.proofs.Common.{◌≡◌, ℕ, Bool, true, Decides, Option, sym, ap, ◌∙◌}
 use Rattle.algebra.specs.Ops.{Ops}
 use Rattle.algebra.specs.Laws.{Laws}
-use Rattle.netlist.specs.Signals.{bit}
 use Rattle.records.specs.declared.fault.TableFault.{TableFault}
-use Rattle.records.specs.declared.record.Record.{Record}
 use Rattle.records.specs.Faults.{test}
-use Rattle.records.specs.Stores.{Store, place, side_on, up}
+use Rattle.records.specs.Stores.{Store, up}
 use Rattle.records.specs.Rules.{Well, Sound, Lawful, Occurs}
-use Rattle.records.specs.Changes.{Within}
 use Rattle.records.specs.Marks.{reach_of}
-use Rattle.records.proofs.Values.{side_before}
 use Rattle.records.proofs.Reaches.{reach_right}
-use Rattle.records.proofs.Shapes.{place_below}
 
 -- the reach of a lawful handle says which values it has
 pub reach_decides : {o : Ops} → Laws o → {s : Store} (w : Well s) → Sound o s → (h m v : ℕ) → Lawful o s h → m ≡ reach_of o s h → Decides (up m v) (Occurs o s h v)

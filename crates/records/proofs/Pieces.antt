@@ -1,14 +1,14 @@
 -- The listed parts of a signal are its parts, and a part of a part is a part.
-use Rattle.std.proofs.Common.{◌≡◌, ℕ, suc, ◌+◌, ◌-◌, ◌*◌, ◌%◌, ◌^◌, ◌<◌, ◌≤◌, map, length, sym, ap, ◌∙◌, inl, inr, ⊎_elim, add_assoc, mod-lt, mod-eq_of_lt, mul_assoc, add-mul, arith, pow_pos, pow-add}
+use Rattle.std.proofs.Common.{◌≡◌, ℕ, suc, ◌+◌, ◌-◌, ◌*◌, ◌%◌, ◌^◌, ◌<◌, ◌≤◌, map, sym, ap, ◌∙◌, inl, inr, ⊎_elim, add_assoc, mod-lt, mod-eq_of_lt, mul_assoc, add-mul, arith, pow_pos, pow-add}
 use lib.Arith.{digits_lt}
 use lib.Pow.{high, low, mod-pow-add, mod-mod-pow}
 use Rattle.std.proofs.lemmas.Bool.{cases_lt}
 use Rattle.algebra.specs.Ops.{Ops}
-use Rattle.netlist.specs.Signals.{Signal, Agree, constant}
+use Rattle.netlist.specs.Signals.{Signal, Agree}
 use Rattle.netlist.specs.Parts.{below, part, parts}
-use Rattle.records.specs.Counts.{Coded, OnePart, PartOf, nth}
+use Rattle.records.specs.Counts.{OnePart, PartOf}
 use Rattle.records.proofs.Alike.{agree_trans, agree_sym, agree_refl}
-use Rattle.records.proofs.Anys.{Any, any_at, any_place, any_map, any_from_map, any_concat, any_from_concat, any_below, any_from_below}
+use Rattle.records.proofs.Anys.{Any, any_map, any_from_map, any_concat, any_from_concat, any_below, any_from_below}
 
 -- ---- the list of parts
 

@@ -1,10 +1,9 @@
 -- The reach of a handle says which values it has. Assumes nothing.
 use Rattle.std.proofs.Common.{◌≡◌, ℕ, zero, suc, ◌+◌, ◌-◌, ◌*◌, ◌/◌, ◌%◌, ◌^◌, ◌<◌, true, false, ◌||◌, eqb, ◌⊎◌, sym, ap, ◌∙◌, subst, inl, inr, ⊎_elim, arith, pow_pos, pow-add}
 use native.Mathlib.Nat.{zero-div, div-eq_of_lt, div_self}
-use lib.Bits.{bit_or, or_lt, or_shr, or_mod}
+use lib.Bits.{bit_or, or_shr, or_mod}
 use lib.Pow.{pow-lt, shl-shr}
-use Rattle.std.proofs.lemmas.Nat.{pow_below}
-use Rattle.std.proofs.lemmas.Bool.{cond_both, cases_lt, cases_Bool, cases_order, cond-true, cond-false, eqb-true, or_cases, or_left, or_right, both_ways}
+use Rattle.std.proofs.lemmas.Bool.{cases_lt, cases_Bool, cases_order, cond-true, cond-false, eqb-true, or_cases, or_left, or_right, both_ways}
 use Rattle.algebra.specs.Ops.{Ops}
 use Rattle.algebra.specs.Laws.{Laws}
 use Rattle.records.specs.Stores.{Store, handle, place, marked, value, up}

@@ -1,20 +1,20 @@
 -- The shape of a table: it has one proof at most, and stands as the table is emptied, grows by a record and goes back.
 -- Assumes nothing.
-use Rattle.std.proofs.Common.{◌≡◌, ℕ, ◌-◌, ◌<◌, ◌≤◌, true, eqb, ltb, List, [], ◌∷◌, ◌++◌, length, take, Some, None, Option, sym, refl, ap, ◌∙◌, subst, inl, inr, ⊎_elim, arith}
+use Rattle.std.proofs.Common.{◌≡◌, ℕ, ◌-◌, ◌<◌, ◌≤◌, ltb, List, [], ◌∷◌, ◌++◌, length, take, Some, None, Option, sym, refl, ap, ◌∙◌, subst, inl, inr, ⊎_elim, arith}
 use mathlib.Core.Logic.{∥∥₁_elim}
 use native.Mathlib.Bridge.{le_prop}
 use std.HLevel.{Π_prop, ⊥_prop}
 use base.Stored.{Coded-set, coded_ℕ}
 use Rattle.std.proofs.lemmas.Nat.{div_below}
-use Rattle.std.proofs.lemmas.List.{get_or-take, get_or_append_left, get_or_push, length-take-le, length_push, ext_get_or}
-use Rattle.std.proofs.lemmas.Bool.{cases_lt, lt-ltb, le-ltb, eq-eqb, cond-true, cond-false}
+use Rattle.std.proofs.lemmas.List.{get_or-take, get_or_append_left, get_or_push, length-take-le, length_push}
+use Rattle.std.proofs.lemmas.Bool.{cases_lt, lt-ltb, le-ltb, cond-true, cond-false}
 use Rattle.records.specs.declared.record.Record.{Record}
 use Rattle.records.specs.Keys as keys
 use Rattle.records.specs.Keys.{blank, record_at}
 use Rattle.records.specs.Stores.{Store, store, handle, place, level}
 use Rattle.records.specs.Rules.{Placed, Well}
-use Rattle.records.specs.Changes.{Within, Grows, Added}
-use Rattle.records.specs.Steps.{Split, Fits, Lacks, Adds, Back}
+use Rattle.records.specs.Changes.{Grows, Added}
+use Rattle.records.specs.Steps.{Fits, Lacks, Adds, Back}
 
 placed_prop : (s : Store) (p : ℕ) (r : Record) → IsProp (Placed s p r)
 placed_prop s p r a b =
