@@ -80,8 +80,3 @@ short_negated {o} laws {s} w k x y h two within e settled =
       lawful = λ sound lx ly. (negated_result laws w none_kept k x y h two e settled sound (no_pairs o s) lx).lawful;
       means = λ sound lx ly. (negated_result laws w none_kept k x y h two e settled sound (no_pairs o s) lx).means;
     }
-
--- what a shortcut comes to in a walk
-pub short_result : (o : Ops) (s : Store) (P : Pairs) (k x y h : ℕ) → Short o s k x y h → Sound o s → TruePairs o s P → Lawful o s x → Lawful o s y → ResultOf o s s P (combined o s k x y) h
-short_result o s P k x y h short sound pairs lx ly =
-    record { sound = sound; pairs = pairs; lawful = short.lawful sound lx ly; means = short.means sound lx ly; taken = λ p a b. absurd (omega arith) }

@@ -1,7 +1,8 @@
-// The calls with one result, and the start. Each makes its tests in a fixed order, leaves a table that was full as it was,
-// and keeps the law of runs: a run that is kept before a call is kept with the call added to it. The clause `fits` stands
-// in each, since callers do not see what the places hold to. Memo and rows are lent to each call: a struct that held them
-// beside the table would ask a clause of each method for each `&mut`, that it is still the same one.
+// The calls with one result, and the start. Each makes its tests in a fixed order, leaves a table that was full as it
+// was, and keeps the law of runs: a run that is kept before a call is kept with the call added to it. The clause `fits`
+// stands in each call that gives a handle, since callers do not see what the places hold to. Memo and rows are lent to each
+// call: a struct that held them beside the table would ask a clause of each method for each `&mut`, that it is still
+// the same one.
 ghost use Rattle.std.specs.Prelude.{◌≡◌, ◌<◌, ◌≤◌, [], ◌∷◌, length, None, MatchResult, OnOk};
 ghost use Rattle.algebra.specs.Ops.{Ops};
 ghost use Rattle.netlist.specs.Signals.{input as input_signal, constant as constant_signal, turned, joined};

@@ -16,7 +16,9 @@ struct Node {
 }
 
 // The records in use, each key at most once, with an index by key (a unique table): a chain of places for each hash, from
-// its head down. All room is reserved when the places are made. Nothing outside of this module sees the index.
+// its head down. A chain goes by number, since the places lie in one list. All room is reserved when the places are made;
+// it stands beside the list, since a list may reserve more than was asked for. Nothing outside of this module sees the
+// index.
 #[derive(Drop)]
 pub(crate) struct Places {
     nodes: Vec<Node>,

@@ -39,6 +39,7 @@ fn gives<G: Algebra, F: Fn(u8) -> u8>(algebra: &G, task: Task, reach: u16, wante
     ensures { T result → (v : ℕ) → v < G.ops.count → up reach v ≡ true
         → F.post wanted v (combine G.ops (number_of task.operation) (operand task.x v) (operand task.y v)) }
 {
+    // a loop, since a closure for `all` would not know that `v` is below the most codes
     for v in 0..G::COUNT.min(MOST_CODES) {
         if is_up(reach, v) && value_at(algebra, task, v) != wanted(v) {
             return false;

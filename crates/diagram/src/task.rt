@@ -1,8 +1,9 @@
 ghost use Rattle.std.specs.Prelude.{◌≡◌};
-ghost use Rattle.diagram.specs.Tasks.{number_of};
+ghost use Rattle.diagram.specs.Tasks.{number_of, key_of};
 ghost use Rattle.records.specs.Walks.{combine};
 
 use algebra::{Algebra, Op};
+use memo::Key;
 
 // What a walk makes of two signals: NOT of the first, or an operator of both.
 #[derive(Clone, Copy)]
@@ -11,7 +12,7 @@ pub(crate) enum Operation {
     Join(Op),
 }
 
-// An operation of two handles; NOT has its one handle twice.
+// An operation of two handles; NOT has its one handle twice, so that a walk splits every task alike.
 #[derive(Clone, Copy)]
 pub(crate) struct Task {
     pub operation: Operation,
@@ -37,6 +38,19 @@ impl Operation {
         match self {
             Operation::Turn => algebra.turn(x),
             Operation::Join(op) => algebra.operate(op, x, y),
+        }
+    }
+}
+
+impl Task {
+    // What memos file its result under.
+    pub(crate) fn key(self) -> Key
+        ensures { result ≡ key_of self }
+    {
+        Key {
+            x: self.x,
+            y: self.y,
+            op: self.operation.number(),
         }
     }
 }

@@ -38,13 +38,13 @@ pub(crate) fn walk<G: Algebra, M: Memo>(
     let (own, rest) = rows.split_at_mut(1);
     let own = &mut own[0];
     let input = table.level(task.x).min(table.level(task.y));
-    let number = task.operation.number();
-    if let Some(h) = memo.get(number, task.x, task.y) {
+    let key = task.key();
+    if let Some(h) = memo.get(key) {
         if table.is_from(h, input) {
             return Ok(h);
         }
     }
-    *own = table.cut(codes, task.x, task.y);
+    *own = table.cut(codes, task.x, task.y, input);
     let down = Task {
         x: own.low,
         y: own.low_other,
@@ -58,6 +58,6 @@ pub(crate) fn walk<G: Algebra, M: Memo>(
     };
     let high = walk(table, codes, memo, rest, up)?;
     let h = table.make(codes, own.input, own.low, high)?;
-    memo.put(number, task.x, task.y, h);
+    memo.put(key, h);
     Ok(h)
 }

@@ -10,10 +10,10 @@ use Rattle.memo.specs.Rows.{blank_row, row_at, told, told_by, Past}
 use Rattle.memo.specs.Buckets.{bucket_of}
 
 -- a row of the epoch says its pair, and nothing of another key
-told_own : (e : ℕ) (r : Row) → r.epoch ≡ e → told e r r.op r.x r.y ≡ Some r.h
+told_own : (e : ℕ) (r : Row) → r.epoch ≡ e → told e r r.key.op r.key.x r.key.y ≡ Some r.h
 told_own e r f = grind (arith, nat_tests)
 
-told_other : (e o a b : ℕ) (r : Row) → ((o ≡ r.op) × (a ≡ r.x) × (b ≡ r.y) → ⊥) → told e r o a b ≡ None
+told_other : (e o a b : ℕ) (r : Row) → ((o ≡ r.key.op) × (a ≡ r.key.x) × (b ≡ r.key.y) → ⊥) → told e r o a b ≡ None
 told_other e o a b r differs = grind (arith, nat_tests)
 
 -- a row of an earlier epoch says nothing
@@ -36,7 +36,7 @@ fresh mask n rows r zero e =
     past : Past 0 rows
     past i = grind (arith, common_steps, get_or-replicate i n r blank_row)
 
-pub puts_set : (e mask i : ℕ) (rows : List Row) (r : Row) → i ≡ bucket_of mask r.op r.x r.y → i < length rows → r.epoch ≡ e → Puts (told_by e mask rows) (told_by e mask (set rows i r)) r.op r.x r.y r.h
+pub puts_set : (e mask i : ℕ) (rows : List Row) (r : Row) → i ≡ bucket_of mask r.key.op r.key.x r.key.y → i < length rows → r.epoch ≡ e → Puts (told_by e mask rows) (told_by e mask (set rows i r)) r.key.op r.key.x r.key.y r.h
 puts_set e mask i rows r own l now =
     record {
       own = grind (arith, common_steps, told_own e r now);

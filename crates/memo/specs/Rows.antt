@@ -6,14 +6,14 @@ use Rattle.memo.specs.Memos.{Pairs}
 
 -- a row that was never written
 abbrev pub blank_row : Row
-blank_row = record { x = 0; y = 0; h = 0; epoch = 0; op = 0 }
+blank_row = record { key = record { x = 0; y = 0; op = 0 }; h = 0; epoch = 0 }
 
 abbrev pub row_at : List Row → ℕ → Row
 row_at rows i = slice_index_or rows i blank_row
 
 -- what a row says of a key in an epoch
 abbrev pub told : ℕ → Row → Pairs
-told e r o a b = cond (r.epoch == e && (r.op == o && (r.x == a && r.y == b))) (Some r.h) None
+told e r o a b = cond (r.epoch == e && (r.key.op == o && (r.key.x == a && r.key.y == b))) (Some r.h) None
 
 -- what rows say of a key: the row of the key's bucket
 abbrev pub told_by : ℕ → ℕ → List Row → Pairs

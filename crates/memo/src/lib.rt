@@ -2,9 +2,11 @@
 #![tactic(auto)]
 
 mod hash;
+mod key;
 mod memo;
 mod rows;
 
 pub use hash::bucket;
+pub use key::Key;
 pub use memo::{Memo, NoMemo};
 pub use rows::RowMemo;

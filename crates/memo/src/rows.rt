@@ -1,17 +1,17 @@
 ghost use Rattle.std.specs.Prelude.{◌<◌, vec_len};
 ghost use Rattle.memo.specs.Rows.{Past};
 
+use crate::key::Key;
+
 mod calls;
 
 // A row of a memo: a pair, and the epoch in which it was laid. A row that was never written is of epoch 0, before the
 // first.
 #[derive(Clone, Copy, Default)]
 pub(crate) struct Row {
-    x: u32,
-    y: u32,
+    key: Key,
     h: u32,
     epoch: u32,
-    op: u8,
 }
 
 // A memo of rows, one for each bucket of keys: a newer pair displaces an older one. A row counts only if it was written

@@ -18,7 +18,7 @@ use Rattle.records.proofs.Values.{unmarked_handle, lawful_place, lawful_within, 
 use Rattle.records.proofs.Canon.{marked_settled}
 use Rattle.records.proofs.Distinct.{places_agree, places_opposite, place_varies}
 use Rattle.records.proofs.Adds.{added_grows}
-use Rattle.records.proofs.Makes.{well_made, made_within, made_level, made_place, made_same, made_found, made_added}
+use Rattle.records.proofs.Makes.{well_made, made_within, made_level, made_place, made_found, made_added}
 
 module _ {o : Ops} (laws : Laws o) {s : Store} (w : Well s) (sound : Sound o s) where
   -- no two places are one part
@@ -47,10 +47,6 @@ module _ {o : Ops} (laws : Laws o) {s : Store} (w : Well s) (sound : Sound o s) 
       (λ e. inl (λ q _. ap (λ x. value o s x q) (sym (unmarked_handle h g e))))
       (cases_Bool (marked h))
 
--- the shape
-pub from_same : {s : Store} (i h : ℕ) → Beyond s i h → From s i h
-from_same i h b = record { within = b.within; deep = let d = b.deeper in omega arith }
-
 pub from_found : (o : Ops) (s t : Store) (i low high p : ℕ) (r : Record) → r ≡ kept o s i low high → Found s t r p ⊎ Fresh s t r p → From t i (made_handle o s low high p)
 from_found o s t i low high p r e (inl f) =
     subst (λ u. From u i (made_handle o s low high p)) (sym f.same)
@@ -64,10 +60,6 @@ from_found o s t i low high p r e (inr f) =
       within = made_within o s t low high p (omega (arith, f.next, f.added.used));
       deep = let d = made_level o s t i low high p (ap (λ z. z.input) (here ∙ e)) in omega arith;
     }
-
--- the meaning
-pub chosen_same : (o : Ops) (s : Store) (i low high : ℕ) → Sound o s → Lawful o s low → low ≡ high → Chosen o s s i low high low
-chosen_same o s i low high sound l e = record { made = made_same o s i low high sound l e; taken = λ p a b. absurd (omega arith) }
 
 module _ {o : Ops} (laws : Laws o) {s : Store} (w : Well s) {i low high : ℕ} (fits : Fits s i low high) where
   pub chosen : {t : Store} (v : Well t) (p : ℕ) (r : Record) → r ≡ kept o s i low high → Found s t r p ⊎ Fresh s t r p → Sound o s → Lawful o s low → Lawful o s high → Chosen o s t i low high (made_handle o s low high p)

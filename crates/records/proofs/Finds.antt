@@ -2,14 +2,14 @@
 -- Assumes nothing.
 use Rattle.std.proofs.Common.{◌≡◌, ℕ, ◌+◌, ◌-◌, ◌*◌, ◌%◌, ◌^◌, ◌<◌, ◌≤◌, true, false, eqb, Some, None, Option, sym, refl, ap, ◌∙◌, subst, ⊎_elim, mod-eq_of_lt, arith, pow_mono}
 use Rattle.std.proofs.lemmas.Nat.{pow_pos, pow-add}
-use Rattle.std.proofs.lemmas.Bool.{cases_lt, cases_order, eq-eqb, eqb-true, both_ways, cond_both}
+use Rattle.std.proofs.lemmas.Bool.{cases_lt, cases_order, eq-eqb, eqb-true, both_ways}
 use Rattle.algebra.specs.Ops.{Ops}
 use Rattle.algebra.specs.Laws.{Laws}
 use Rattle.netlist.specs.Signals.{Signal, bit}
 use Rattle.netlist.specs.Findings.{first}
 use Rattle.netlist.proofs.Searches.{first_found, first_least, first_none}
 use Rattle.records.specs.declared.record.Record.{Record}
-use Rattle.records.specs.Stores.{Store, handle, place, marked, level, under_mark, value, up}
+use Rattle.records.specs.Stores.{Store, handle, place, level, under_mark, value, up}
 use Rattle.records.specs.Rules.{Placed, Well, Sound, Lawful, Occurs}
 use Rattle.records.specs.Changes.{Within}
 use Rattle.records.specs.Marks.{reach_of}
@@ -178,9 +178,6 @@ Leads o s h v x = Sound o s → Lawful o s h → Occurs o s h v → first s.inpu
 -- the same at equal numbers
 leads_same : {o : Ops} {s : Store} (g h u v x : ℕ) → g ≡ h → u ≡ v → Leads o s g u x → Leads o s h v x
 leads_same {o} {s} g h u v x e d l = subst (λ k. Leads o s h k x) d (subst (λ k. Leads o s k u x) e l)
-
-pub under_code : {o : Ops} → Laws o → (h v u : ℕ) → u ≡ under_mark o h v → v < o.count → u < o.count
-under_code {o} laws h v u e c = rw e (cond_both (marked h) (o.turn v) v (λ k. k < o.count) (λ _. laws.turn_below v) (λ _. c))
 
 -- one step of it: of a place whose record is r, with the value u wanted below its mark, and m the reach of its 0 side
 module _ {o : Ops} (laws : Laws o) {s : Store} (w : Well s) (h v u m : ℕ) (r : Record) (large : 16 ≤ h) (within : Within s h) (read : r ≡ s.at (place h))

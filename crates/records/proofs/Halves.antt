@@ -1,14 +1,14 @@
 -- A handle split at an input that it tests first or not at all. Assumes nothing.
-use Rattle.std.proofs.Common.{◌≡◌, ℕ, ◌+◌, ◌^◌, ◌<◌, ◌≤◌, min, true, false, cond, eqb, sym, refl, ap, ◌∙◌, subst, ⊎_elim, arith}
-use Rattle.std.proofs.lemmas.Bool.{cases_lt, cases_Bool, cond-true, cond-false, eqb-true, eqb-false, eq-eqb, ne_eqb}
+use Rattle.std.proofs.Common.{◌≡◌, ℕ, ◌+◌, ◌^◌, ◌<◌, ◌≤◌, min, eqb, sym, refl, ap, ◌∙◌, subst, ⊎_elim, arith}
+use Rattle.std.proofs.lemmas.Bool.{cases_lt, cases_Bool, cond-true, cond-false, eqb-true, eqb-false}
 use Rattle.algebra.specs.Ops.{Ops}
 use Rattle.algebra.specs.Laws.{Laws}
 use Rattle.netlist.specs.Signals.{bit}
 use Rattle.records.specs.declared.row.Row.{Row}
-use Rattle.records.specs.Stores.{Store, place, marked, level, side, value}
+use Rattle.records.specs.Stores.{Store, level, value}
 use Rattle.records.specs.Rules.{Well, Sound, Lawful}
 use Rattle.records.specs.Changes.{Within}
-use Rattle.records.specs.Marks.{negate, cofactor}
+use Rattle.records.specs.Marks.{cofactor}
 use Rattle.records.specs.Makings.{Beyond}
 use Rattle.records.specs.Walks.{cofactor_at, Cut}
 use Rattle.records.proofs.Bits.{fixed}
@@ -19,24 +19,6 @@ use Rattle.records.proofs.Cofactors.{cofactor_within, cofactor_deeper, cofactor_
 -- a handle that tests an input is no constant
 pub tests_large : (s : Store) (h i : ℕ) → level s h ≡ i → i < s.inputs → 16 ≤ h
 tests_large s h i e l = ⊎_elim (λ c. absurd (omega (arith, level_constant s h c))) (λ c. c) (cases_lt h 16)
-
--- from the sides as stored
-pub split_passes : (o : Ops) (s : Store) (h i b g : ℕ) → (level s h ≡ i → ⊥) → g ≡ cond (eqb (level s h) i) (side (s.at (place h)) b) h → g ≡ cofactor_at o s h i b
-split_passes o s h i b g ne e =
-    let t = ne_eqb (level s h) i ne in
-    e ∙ cond-false (eqb (level s h) i) (side (s.at (place h)) b) h t ∙ sym (cond-false (eqb (level s h) i) (cofactor o s h b) h t)
-
-pub split_plain : (o : Ops) (s : Store) (h i b g : ℕ) → level s h ≡ i → marked h ≡ false → g ≡ cond (eqb (level s h) i) (side (s.at (place h)) b) h → g ≡ cofactor_at o s h i b
-split_plain o s h i b g l m e =
-    let t = eq-eqb (level s h) i l in
-    let k = side (s.at (place h)) b in
-    e ∙ cond-true (eqb (level s h) i) k h t ∙ sym (cond-true (eqb (level s h) i) (cofactor o s h b) h t ∙ cond-false (marked h) (negate o s k) k m)
-
-pub split_marked : (o : Ops) (s : Store) (h i b g r : ℕ) → level s h ≡ i → marked h ≡ true → g ≡ cond (eqb (level s h) i) (side (s.at (place h)) b) h → r ≡ negate o s g → r ≡ cofactor_at o s h i b
-split_marked o s h i b g r l m e d =
-    let t = eq-eqb (level s h) i l in
-    let k = side (s.at (place h)) b in
-    d ∙ ap (negate o s) (e ∙ cond-true (eqb (level s h) i) k h t) ∙ sym (cond-true (eqb (level s h) i) (cofactor o s h b) h t ∙ cond-true (marked h) (negate o s k) k m)
 
 -- g is what is left of h when the bit of input i is b
 pub record Half (o : Ops) (s : Store) (i b h g : ℕ) : Type 0 where

@@ -1,8 +1,8 @@
 -- Lay and compare keep the law of runs, one line or pair at a time: the call so far is an event with the answers so far.
 -- Assumes nothing.
-use Rattle.std.proofs.Common.{◌≡◌, ℕ, zero, suc, ◌+◌, ◌<◌, ◌≤◌, Bool, true, false, cond, eqb, List, [], ◌∷◌, ◌++◌, map, length, get_or, take, drop, set, None, Ok, Option, Result, sym, refl, ap, ◌∙◌, subst, ap₂, append_assoc, append-nil, arith}
+use Rattle.std.proofs.Common.{◌≡◌, ℕ, zero, suc, ◌+◌, ◌<◌, ◌≤◌, Bool, true, false, cond, eqb, List, [], ◌∷◌, ◌++◌, map, length, get_or, take, drop, None, Ok, Option, Result, sym, refl, ap, ◌∙◌, subst, ap₂, append_assoc, append-nil, arith}
 use Rattle.std.specs.List.{AllByRecursion}
-use Rattle.std.proofs.lemmas.List.{take-append-drop, take_at, take_more_set, length-take-le, length-map, get_or-take, get_or_push, get_or-map, map_push}
+use Rattle.std.proofs.lemmas.List.{take-append-drop, take_at, length-take-le, length-map, get_or-take, get_or_push}
 use Rattle.std.proofs.lemmas.Bool.{cond-true, cond-false, eq-eqb, ne_eqb}
 use Rattle.algebra.specs.Ops.{Ops}
 use Rattle.algebra.specs.Laws.{Laws}
@@ -38,10 +38,6 @@ unfolding zipped
 zipped_more f [] ys x y h = absurd (omega arith)
 zipped_more f (a ∷ xs) [] x y h = ap (λ l. f a y ∷ l) (zipped_none f xs)
 zipped_more f (a ∷ xs) (b ∷ ys) x y h = ap (λ l. f a b ∷ l) (zipped_more f xs ys x y (omega arith))
-
--- the answers so far, when the handle of one more line is written
-pub told_more : (hs : List ℕ) (i h : ℕ) → i < length hs → map told (take (i + 1) (set hs i h)) ≡ map told (take i hs) ++ told h ∷ []
-told_more hs i h l = ap (map told) (take_more_set hs i h l) ∙ map_push told (take i hs) h
 
 -- ---- the signals of the lines so far
 
@@ -97,33 +93,6 @@ module _ (o : Ops) (n : ℕ) where
       ∙ cond-false (eqb l.kind 1) _ _ (ne_eqb l.kind 1 (λ z. omega arith))
       ∙ cond-false (eqb l.kind 2) _ _ (ne_eqb l.kind 2 (λ z. omega arith))
       ∙ cond-true (eqb l.kind 8) _ _ (eq-eqb l.kind 8 e)
-
--- what a line means, by its kind, over the values of the handles of the lines before it
-module _ (o : Ops) (n : ℕ) (s : Store) (hs : List ℕ) (l : Line) where
-  handle_signal : (k : ℕ) → k < length hs → signal_at (map (value o s) hs) k ≡ value o s (get_or hs k 0)
-  handle_signal k h = get_or-map (value o s) hs k 0 (constant 0) h
-
-  input_means : l.kind ≡ 0 → line_signal o n (map (value o s) hs) l ≡ signals.input n l.first
-  input_means e = cond-true (eqb l.kind 0) _ _ (eq-eqb l.kind 0 e)
-
-  constant_means : l.kind ≡ 1 → line_signal o n (map (value o s) hs) l ≡ constant l.first
-  constant_means e =
-      cond-false (eqb l.kind 0) _ _ (ne_eqb l.kind 0 (λ z. omega arith)) ∙ cond-true (eqb l.kind 1) _ _ (eq-eqb l.kind 1 e)
-
-  turn_means : l.kind ≡ 2 → l.first < length hs → line_signal o n (map (value o s) hs) l ≡ turned o (value o s (get_or hs l.first 0))
-  turn_means e h =
-      cond-false (eqb l.kind 0) _ _ (ne_eqb l.kind 0 (λ z. omega arith))
-      ∙ cond-false (eqb l.kind 1) _ _ (ne_eqb l.kind 1 (λ z. omega arith))
-      ∙ cond-true (eqb l.kind 2) _ _ (eq-eqb l.kind 2 e)
-      ∙ ap (turned o) (handle_signal l.first h)
-
-  join_means : 2 < l.kind → (l.kind ≡ 8 → ⊥) → l.first < length hs → l.second < length hs → line_signal o n (map (value o s) hs) l ≡ joined o l.kind (value o s (get_or hs l.first 0)) (value o s (get_or hs l.second 0))
-  join_means large other h k =
-      cond-false (eqb l.kind 0) _ _ (ne_eqb l.kind 0 (λ z. omega arith))
-      ∙ cond-false (eqb l.kind 1) _ _ (ne_eqb l.kind 1 (λ z. omega arith))
-      ∙ cond-false (eqb l.kind 2) _ _ (ne_eqb l.kind 2 (λ z. omega arith))
-      ∙ cond-false (eqb l.kind 8) _ _ (ne_eqb l.kind 8 other)
-      ∙ ap₂ (joined o l.kind) (handle_signal l.first h) (handle_signal l.second k)
 
 -- ---- handles with signals
 
@@ -214,24 +183,6 @@ module _ {o : Ops} (laws : Laws o) {s t : Store} (w : Well s) (v : Well t) {room
           ∙ line_agree o n (map (value o s) hs) (take (length hs) ss) l (signalled_at o n s hs ss (laid_signalled ls hs (omega arith) before)) p k
           ∙ ap (λ f. f p) (sym (signal_here o n ls (length hs) l h here)))
           before.holds
-
-  -- by kind
-  module _ (ls : List Line) (hs : List ℕ) (l : Line) (h : length hs < length ls) (here : l ≡ get_or ls (length hs) l) where
-    by_meaning : (m : Signal) → line_signal o s.inputs (map (value o s) hs) l ≡ m → Meaning o room s t P Q m r → Kept o room (lay ls (map told hs) ∷ run) s P → Kept o room (lay ls (map told hs ++ answer_of r ∷ []) ∷ run) t Q
-    by_meaning m e meaning = kept_line ls hs l h here (subst (λ x. Meaning o room s t P Q x r) (sym e) meaning)
-
-    pub kept_input_line : l.kind ≡ 0 → Meaning o room s t P Q (signals.input s.inputs l.first) r → Kept o room (lay ls (map told hs) ∷ run) s P → Kept o room (lay ls (map told hs ++ answer_of r ∷ []) ∷ run) t Q
-    kept_input_line e = by_meaning _ (input_means o s.inputs s hs l e)
-
-    pub kept_constant_line : l.kind ≡ 1 → Meaning o room s t P Q (constant l.first) r → Kept o room (lay ls (map told hs) ∷ run) s P → Kept o room (lay ls (map told hs ++ answer_of r ∷ []) ∷ run) t Q
-    kept_constant_line e = by_meaning _ (constant_means o s.inputs s hs l e)
-
-    pub kept_turn_line : l.kind ≡ 2 → l.first < length hs → (x : ℕ) → x ≡ get_or hs l.first 0 → Meaning o room s t P Q (turned o (value o s x)) r → Kept o room (lay ls (map told hs) ∷ run) s P → Kept o room (lay ls (map told hs ++ answer_of r ∷ []) ∷ run) t Q
-    kept_turn_line e k x x-is = by_meaning _ (turn_means o s.inputs s hs l e k ∙ ap (λ z. turned o (value o s z)) (sym x-is))
-
-    pub kept_join_line : 2 < l.kind → (l.kind ≡ 8 → ⊥) → l.first < length hs → l.second < length hs → (x y : ℕ) → x ≡ get_or hs l.first 0 → y ≡ get_or hs l.second 0
-        → Meaning o room s t P Q (joined o l.kind (value o s x) (value o s y)) r → Kept o room (lay ls (map told hs) ∷ run) s P → Kept o room (lay ls (map told hs ++ answer_of r ∷ []) ∷ run) t Q
-    kept_join_line large other k m x y x-is y-is = by_meaning _ (join_means o s.inputs s hs l large other k m ∙ ap₂ (λ z u. joined o l.kind (value o s z) (value o s u)) (sym x-is) (sym y-is))
 
 module _ {o : Ops} (laws : Laws o) {s : Store} (w : Well s) {room : ℕ} (fits : s.used ≤ room) (P : Pairs) (run : Run) (ls : List Line) (hs : List ℕ) where
   -- one line more that a test refuses

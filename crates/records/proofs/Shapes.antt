@@ -1,20 +1,20 @@
 -- The shape of a table: it has one proof at most, and stands as the table is emptied, grows by a record and goes back.
 -- Assumes nothing.
-use Rattle.std.proofs.Common.{◌≡◌, ℕ, ◌-◌, ◌<◌, ◌≤◌, true, eqb, ltb, List, [], ◌∷◌, ◌++◌, length, take, Some, None, Option, sym, refl, ap, ◌∙◌, subst, inl, inr, ⊎_elim, arith}
+use Rattle.std.proofs.Common.{◌≡◌, ℕ, ◌-◌, ◌<◌, ◌≤◌, ltb, List, [], ◌∷◌, ◌++◌, length, take, Some, None, Option, sym, refl, ap, ◌∙◌, subst, inl, inr, ⊎_elim, arith}
 use mathlib.Core.Logic.{∥∥₁_elim}
 use native.Mathlib.Bridge.{le_prop}
 use std.HLevel.{Π_prop, ⊥_prop}
 use base.Stored.{Coded-set, coded_ℕ}
 use Rattle.std.proofs.lemmas.Nat.{div_below}
-use Rattle.std.proofs.lemmas.List.{get_or-take, get_or_append_left, get_or_push, length-take-le, length_push, ext_get_or}
-use Rattle.std.proofs.lemmas.Bool.{cases_lt, lt-ltb, le-ltb, eq-eqb, cond-true, cond-false}
+use Rattle.std.proofs.lemmas.List.{get_or-take, get_or_append_left, get_or_push, length-take-le, length_push}
+use Rattle.std.proofs.lemmas.Bool.{cases_lt, lt-ltb, le-ltb, cond-true, cond-false}
 use Rattle.records.specs.declared.record.Record.{Record}
 use Rattle.records.specs.Keys as keys
 use Rattle.records.specs.Keys.{blank, record_at}
 use Rattle.records.specs.Stores.{Store, store, handle, place, level}
 use Rattle.records.specs.Rules.{Placed, Well}
-use Rattle.records.specs.Changes.{Within, Grows, Added}
-use Rattle.records.specs.Steps.{Split, Fits, Lacks, Adds, Back}
+use Rattle.records.specs.Changes.{Grows, Added}
+use Rattle.records.specs.Steps.{Fits, Lacks, Adds, Back}
 
 placed_prop : (s : Store) (p : ℕ) (r : Record) → IsProp (Placed s p r)
 placed_prop s p r a b =
@@ -67,26 +67,6 @@ module _ (s t : Store) (m : ℕ) (inputs : t.inputs ≡ s.inputs) (same : (p : �
         high_deeper = omega (arith, level_agrees r.high (omega (arith, q.high_before)), q.high_deeper);
         sides_differ = q.sides_differ;
       }
-
--- the sides of a place in use at the input that it tests
-pub split_place : {s : Store} → Well s → (h i : ℕ) (r : Record) → 16 ≤ h → Within s h → r ≡ s.at (place h) → r.input ≡ i → Split s h i r.low r.high
-split_place {s} w h i r g l e f =
-    let b = place_below h s.used g l in
-    let q : Placed s (place h) r = subst (Placed s (place h)) (sym e) (w.placed (place h) b) in
-    let tests : eqb (level s h) i ≡ true = eq-eqb (level s h) i (level_place s h g ∙ ap (λ z. z.input) (sym e) ∙ f) in
-    record {
-      low_is = ap (λ z. z.low) e ∙ sym (cond-true (eqb (level s h) i) (s.at (place h)).low h tests);
-      high_is = ap (λ z. z.high) e ∙ sym (cond-true (eqb (level s h) i) (s.at (place h)).high h tests);
-      low_within = omega (arith, q.low_before);
-      high_within = omega (arith, q.high_before);
-      low_deeper = omega (arith, q.low_deeper);
-      high_deeper = omega (arith, q.high_deeper);
-    }
-
-pub well_none : (inputs : ℕ) (rs : List Record) → inputs ≤ 60 → rs ≡ [] → Well (store inputs rs)
-well_none inputs rs few e =
-    let none : length rs ≡ 0 = ap length e in
-    record { few = few; placed = λ p l. absurd (omega arith); apart = λ p q l. absurd (omega arith) }
 
 pub well_back : {s t : Store} (n : ℕ) → Well s → n ≤ s.used → Back s n t → Well t
 well_back {s} {t} n w l b =
@@ -187,13 +167,3 @@ pub well_adds : (s t : Store) (n : ℕ) (r : Record) (o : Option ℕ) → Well s
 well_adds s t n r None w fits d = subst Well (sym d.same) w
 well_adds s t n r (Some p) w fits (inl d) = subst Well (sym d.same) w
 well_adds s t n r (Some p) w fits (inr d) = well_added w fits d.lacked d.added
-
--- a table that grew and went back is as it was
-pub returned : (a b : ℕ) (rs ts : List Record) (t : Store) → Grows (store a rs) t → Back t (length rs) (store b ts) → store b ts ≡ store a rs
-returned a b rs ts t grows back =
-    let inputs : b ≡ a = back.inputs ∙ grows.inputs in
-    let list : ts ≡ rs =
-    ext_get_or blank ts rs back.used (λ p l.
-    let k : p < length rs = omega (arith, back.used) in
-    back.same p k ∙ grows.same p k) in
-    ap (λ n. store n ts) inputs ∙ ap (store a) list

@@ -218,9 +218,6 @@ module _ {o : Ops} (laws : Laws o) {s : Store} (w : Well s) (k x y i x0 x1 y0 y1
       inputs : u.inputs ≡ s.inputs
       inputs = second.inputs ∙ first.inputs
 
-      pub sides_lawful : Lawful o u h0 × Lawful o u h1
-      sides_lawful = (lawful_grows o second h0 low.lawful, high.lawful)
-
       -- the choice between the two is the result
       chosen_agrees : Agree u.inputs (choice o u i h0 h1) (combined o s k x y)
       chosen_agrees q l =

@@ -41,6 +41,7 @@ impl<'a, G: Algebra> Codes<'a, G> {
     pub(crate) fn of(algebra: &'a G) -> Codes<'a, G> {
         let mut loose = 0;
         let mut firm = 0;
+        // one pass makes both masks
         for v in 0..MOST_CODES {
             loose = with(loose, v, !is_settled_code(algebra, v));
             firm = with(firm, v, is_firm_code(algebra, v));

@@ -46,6 +46,7 @@ impl Places {
         ensures place { Added (in_use self.old) (room_for self.old) r result (in_use self.new) }
         ensures room { room_for self.new ≡ room_for self.old }
     {
+        // a closure for `or_else` would have to say what it does to the places, as `put` says it
         match self.seek(r) {
             Some(p) => Some(p),
             None => self.put(r),

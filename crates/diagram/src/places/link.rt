@@ -2,7 +2,7 @@ ghost use Rattle.std.specs.Prelude.{◌≡◌, ◌+◌, ◌≤◌, MatchOption};
 ghost use Rattle.diagram.specs.Chains.{rank};
 
 // The next place of a chain, if there is one: its number and one more, or 0. An `Option<u32>` takes eight bytes where this
-// takes four, and with it each case of bench/ took longer, up to a tenth.
+// takes four, and with it each case of bench/ took longer, by 1 to 11 in a hundred.
 #[derive(Clone, Copy, Default)]
 pub(super) struct Link {
     number: u32,

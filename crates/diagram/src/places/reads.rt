@@ -45,6 +45,7 @@ impl Places {
         while let Some(p) = link.place() {
             let node = self.nodes[p];
             let s = node.record;
+            // by its parts, since a record has its reach beside its key
             if s.input == r.input && s.low == r.low && s.high == r.high {
                 return Some(p);
             }

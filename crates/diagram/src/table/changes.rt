@@ -72,12 +72,9 @@ impl Table {
         ensures outcome { Settled (view self.old) used (view self.new) (M.recalls memo.old) (M.recalls memo.new) made result }
         ensures room { room self.new ≡ room self.old }
     {
-        match made {
-            Ok(h) => Ok(h),
-            Err(full) => {
-                self.cut_back(memo, used);
-                Err(full.into())
-            }
+        if made.is_err() {
+            self.cut_back(memo, used);
         }
+        Ok(made?)
     }
 }

@@ -49,19 +49,19 @@ impl Table {
         let reach = low_reach | self.reach_of(codes, high);
         let lead = lead_side(codes, low_reach, low, high);
         let turned = is_turned(codes, reach, lead);
-        if !turned {
-            let record = Record {
-                low,
-                high,
-                reach,
-                input,
-            };
-            return Kept { record, turned };
-        }
+        let (low, high, reach) = if turned {
+            (
+                self.negate(codes, low),
+                self.negate(codes, high),
+                codes.turn_mask(reach),
+            )
+        } else {
+            (low, high, reach)
+        };
         let record = Record {
-            low: self.negate(codes, low),
-            high: self.negate(codes, high),
-            reach: codes.turn_mask(reach),
+            low,
+            high,
+            reach,
             input,
         };
         Kept { record, turned }

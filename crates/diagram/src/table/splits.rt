@@ -1,5 +1,5 @@
 // Splitting handles at an input (their cofactors).
-ghost use Rattle.std.specs.Prelude.{◌≡◌, ◌<◌, ◌≤◌, MatchBool};
+ghost use Rattle.std.specs.Prelude.{◌≡◌, ◌<◌, ◌≤◌, min, MatchBool};
 ghost use Rattle.records.specs.Changes.{Within};
 ghost use Rattle.records.specs.Makings.{From};
 ghost use Rattle.records.specs.Stores.{level};
@@ -46,13 +46,13 @@ impl Table {
     }
 
     // Two handles, not both constants, split at the input that either tests first.
-    pub(crate) fn cut<G: Algebra>(&self, codes: &Codes<G>, x: u32, y: u32) -> Row
+    pub(crate) fn cut<G: Algebra>(&self, codes: &Codes<G>, x: u32, y: u32, input: u8) -> Row
         requires x { Within (view self.now) x }
         requires y { Within (view self.now) y }
         requires places { x < 16 → y < 16 → ⊥ }
+        requires input { input ≡ min (level (view self.now) x) (level (view self.now) y) }
         ensures { Cut G.ops (view self.now) x y result }
     {
-        let input = self.level(x).min(self.level(y));
         let first = self.cofactors(codes, x, input);
         let second = self.cofactors(codes, y, input);
         Row {

@@ -5,6 +5,7 @@ ghost use Rattle.memo.specs.Recalls.{recalled, row_count};
 
 use super::{Row, RowMemo};
 use crate::hash::bucket;
+use crate::key::Key;
 use crate::memo::Memo;
 use std::alloc::{AllocError, Global};
 
@@ -22,11 +23,11 @@ impl RowMemo {
     }
 
     // The number of a key's row.
-    fn row_of(&self, op: u8, x: u32, y: u32) -> usize
-        ensures value { result ≡ bucket_of (row_count self.now - 1) op x y }
+    fn row_of(&self, key: Key) -> usize
+        ensures value { result ≡ bucket_of (row_count self.now - 1) key.op key.x key.y }
         ensures within { result < row_count self.now }
     {
-        bucket(self.rows.len() - 1, op, x, y)
+        bucket(self.rows.len() - 1, key.op, key.x, key.y)
     }
 
     // Forgets what every row holds, and begins the epochs anew.
@@ -41,23 +42,17 @@ impl RowMemo {
 impl Memo for RowMemo {
     ghost recalls = { recalled };
 
-    fn get(&self, op: u8, x: u32, y: u32) -> Option<u32> {
-        let row = self.rows[self.row_of(op, x, y)];
-        if row.epoch == self.epoch && row.op == op && row.x == x && row.y == y {
-            Some(row.h)
-        } else {
-            None
-        }
+    fn get(&self, key: Key) -> Option<u32> {
+        let row = self.rows[self.row_of(key)];
+        (row.epoch == self.epoch && row.key == key).then_some(row.h)
     }
 
-    fn put(&mut self, op: u8, x: u32, y: u32, h: u32) {
-        let i = self.row_of(op, x, y);
+    fn put(&mut self, key: Key, h: u32) {
+        let i = self.row_of(key);
         self.rows[i] = Row {
-            x,
-            y,
+            key,
             h,
             epoch: self.epoch,
-            op,
         };
     }
 

@@ -22,7 +22,7 @@ returns-then-is_from-clause-meaning g t c =
     let s = view c.args.table.now in
     let r : From s c.min-input.result c.in-Some-get.h = when_true _ (Unit {0}) c.if-is_from.true c.is_from.ensures in
     λ sound pairs lx ly.
-    recalled_result o s (g.M.Memo.recalls c.args.memo.now) (number_of c.args.task.operation) c.args.task.x c.args.task.y c.in-Some-get.h (sym (c.get.ensures ∙ ap (λ k. g.M.Memo.recalls c.args.memo.now k c.args.task.x c.args.task.y) c.number-number.ensures) ∙ c.in-Some-get.is) sound pairs
+    recalled_result o s (g.M.Memo.recalls c.args.memo.now) (number_of c.args.task.operation) c.args.task.x c.args.task.y c.in-Some-get.h (sym (c.get.ensures ∙ ap (λ k. g.M.Memo.recalls c.args.memo.now k.op k.x k.y) c.key-key.ensures) ∙ c.in-Some-get.is) sound pairs
 
 pub walk-requires : goal.walk-requires
 walk-requires g t c κs within =
@@ -135,5 +135,5 @@ returns g t c =
           walked_made laws s w (recalls c.args.memo.now) (number_of c.args.task.operation) c.args.task.x c.args.task.y row.input row.low row.high row.low_other row.high_other cut
           t1 (well c.walk.new.table.well) c.walk.ensures.grows (recalls c.walk.new.memo) c.in_ok-own.field-0 c.in_ok-own.ensures.meaning
           t2 (well c.walk-2.new.table.well) c.walk-2.ensures.grows (recalls c.walk-2.new.memo) c.in_ok-high.high c.in_ok-high.ensures.meaning
-          t3 c.make.ensures.grows (recalls c.put.new.self) c.in_ok-h.h c.in_ok-h.ensures.meaning (subst (λ k. Puts (recalls c.walk-2.new.memo) (recalls c.put.new.self) k c.args.task.x c.args.task.y c.in_ok-h.h) c.number-number.ensures c.put.ensures);
+          t3 c.make.ensures.grows (recalls c.put.new.self) c.in_ok-h.h c.in_ok-h.ensures.meaning (subst (λ k. Puts (recalls c.walk-2.new.memo) (recalls c.put.new.self) k.op k.x k.y c.in_ok-h.h) c.key-key.ensures c.put.ensures);
     }

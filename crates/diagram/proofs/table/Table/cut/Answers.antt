@@ -5,17 +5,15 @@ use Rattle.diagram.proofs.table.Table.cut.Goals as goal
 
 pub cofactors-second-requires-clause-inside : goal.cofactors-second-requires-clause-inside
 cofactors-second-requires-clause-inside g c =
-    let m = c.min-input.ensures in
     let inside = cut_inside (well c.args.self.now.well) c.args.x c.args.y c.requires.x c.requires.y c.requires.places in
-    omega arith
+    omega (arith, inside, c.requires.input)
 
 pub returns : goal.returns
 returns g c =
-    let m = c.min-input.ensures in
     let inside = cut_inside (well c.args.self.now.well) c.args.x c.args.y c.requires.x c.requires.y c.requires.places in
     record {
-      input_is = omega arith;
-      inside = omega arith;
+      input_is = c.requires.input;
+      inside = omega (arith, inside, c.requires.input);
       low_is = c.cofactors-first.ensures.low;
       high_is = c.cofactors-first.ensures.high;
       low_other_is = c.cofactors-second.ensures.low;

@@ -11,5 +11,5 @@ pub returns : goal.returns
 returns c =
     let m = c.args.self.now in
     puts_set m.epoch (vec_len m.rows - 1) c.row_of-i.result (vec_items m.rows)
-    record { x = c.args.x; y = c.args.y; h = c.args.h; epoch = m.epoch; op = c.args.op }
+    record { key = c.args.key; h = c.args.h; epoch = m.epoch }
     c.row_of-i.ensures.value (omega arith) refl
