@@ -1,5 +1,5 @@
--- One single result: the table and the memo that it leaves keep what holds of the book, and what it was told is judged rightly.
--- Assumes nothing.
+-- One single result: the table and the memo that it leaves keep what holds of the book, and what it was told is judged
+-- rightly. Assumes nothing.
 use Rattle.std.proofs.Common.{◌≡◌, ℕ, zero, suc, ◌<◌, ◌≤◌, ◌⊎◌, List, [], ◌∷◌, ◌++◌, Ok, Err, Option, Result, sym, ap, ◌∙◌, subst, inl, inr, ⊎_elim, arith}
 use Rattle.std.specs.List.{AllByRecursion}
 use Rattle.std.proofs.ByRecursion.{All-weaker}
