@@ -8,7 +8,7 @@ use Rattle.records.specs.Counts.{OnePart, PartOf, PartIn, nth, DifferentParts, A
 use Rattle.records.proofs.Pigeons.{pigeonhole_by}
 use Rattle.records.proofs.Alike.{agree_refl, one_refl, one_sym, one_trans, one_varies}
 use Rattle.records.proofs.Anys.{Any, any_at, any_place, any_map, any_from_map, any_concat, any_from_concat}
-use Rattle.records.proofs.Pieces.{in_parts, from_parts, part_of_agree}
+use Rattle.records.proofs.Pieces.{in_parts, from_parts, part_of_agree, part_trans, one_of_parts}
 use Rattle.records.proofs.Sieve.{apart_places, different_among, different_vary, different_apart, different_covers}
 
 -- all parts of the signals, and the different ones
@@ -40,6 +40,18 @@ part_in o n ss k t h r = (k, h, t, r, one_refl o n t)
 
 pub part_in_one : (o : Ops) (n : ℕ) (ss : List Signal) (t u : Signal) → OnePart o n t u → PartIn o n ss u → PartIn o n ss t
 part_in_one o n ss t u e (k, h, v, r, q) = (k, h, v, r, one_trans o n t u v e q)
+
+-- a part of what is in the list is in it
+pub part_in_part : (o : Ops) (n : ℕ) (ss : List Signal) (t u : Signal) → PartOf n u t → PartIn o n ss t → PartIn o n ss u
+part_in_part o n ss t u r (k, h, v, q, e) =
+    let w = part n v r.0 r.1 in
+    let p = part n t r.0 r.1 in (
+      k,
+      h,
+      w,
+      part_trans n w v (nth ss k) (r.0, r.1, r.2, r.3, agree_refl n w) q,
+      one_trans o n u p w (inl r.4) (one_of_parts o n t v r.0 r.1 r.2 r.3 e),
+    )
 
 -- ---- the count
 
@@ -153,3 +165,17 @@ same_signals o n ss ts there back = let h = fewer_signals o n ss ts there in let
 -- a signal more
 pub found_later : (n : ℕ) (s : Signal) (ss : List Signal) → FoundIn n ss (s ∷ ss)
 found_later n s ss k h = (suc k, suc-le-suc h, agree_refl n (nth ss k))
+
+pub nothing_new : (o : Ops) (n : ℕ) (s : Signal) (ss : List Signal) → ((t : Signal) → PartOf n t s → is_constant n t ≡ false → PartIn o n ss t) → part_count o n (s ∷ ss) ≡ part_count o n ss
+nothing_new o n s ss old =
+    let h = fewer_parts o n (s ∷ ss) ss inside in
+    let l = fewer_signals o n ss (s ∷ ss) (found_later n s ss) in
+    omega arith
+  where
+    inside : (k : ℕ) (t : Signal) → k < length (s ∷ ss) → PartOf n t (nth (s ∷ ss) k) → is_constant n t ≡ false → PartIn o n ss t
+    inside zero t h r v = old t r v
+    inside (suc k) t h r v = part_in o n ss k t (le_of_suc-le-suc h) r
+
+-- that holds of a signal that is itself one with a part of the list
+pub part_adds_nothing : (o : Ops) (n : ℕ) (s : Signal) (ss : List Signal) → PartIn o n ss s → part_count o n (s ∷ ss) ≡ part_count o n ss
+part_adds_nothing o n s ss p = nothing_new o n s ss (λ t r _. part_in_part o n ss s t r p)

@@ -1,5 +1,5 @@
 -- NOT of a handle that reaches settled values alone takes no walk. Assumes nothing.
-use Rattle.std.proofs.Common.{◌≡◌, ℕ, ◌+◌, ◌-◌, ◌^◌, ◌<◌, ◌≤◌, true, false, sym, ap, ◌∙◌, subst, ⊎_elim, arith}
+use Rattle.std.proofs.Common.{◌≡◌, ℕ, ◌+◌, ◌-◌, ◌^◌, ◌<◌, ◌≤◌, true, false, T, sym, ap, ◌∙◌, subst, ⊎_elim, arith}
 use Rattle.std.proofs.lemmas.Bool.{cases_lt, cases_Bool, cases_eq, cond-true, cond-false, and_from, both_ways}
 use Rattle.algebra.specs.Ops.{Ops}
 use Rattle.algebra.specs.Laws.{Laws}
@@ -8,7 +8,7 @@ use Rattle.records.specs.Rules.{Well, Sound, Lawful, settled_mask, firm_mask, ma
 use Rattle.records.specs.Marks.{flipped, negate}
 use Rattle.records.proofs.Values.{at_constant, at_place, unmarked_handle, marked_handle, handle_unmarked, handle_marked, level_constant, level_place, lawful_place, lawful_within, lawful_marked, constant_lawful, place_lawful, handle_lawful, value_constant, value_under, value_marked, under_marked, codes}
 use Rattle.records.proofs.Masks.{reach_place, settled_is_mask, firm_is_mask, SomeFirm}
-use Rattle.records.proofs.Canon.{marked_settled}
+use Rattle.records.proofs.Canon.{marked_settled, one_number}
 
 -- the mark changed, the place kept
 pub flipped_unmarked : (h : ℕ) → marked h ≡ false → flipped h ≡ h + 1
@@ -150,3 +150,16 @@ module _ {o : Ops} (laws : Laws o) {s : Store} (w : Well s) (sound : Sound o s) 
       (cases_Bool (marked h)))
       (cases_Bool (may_mark o (s.at p).reach)))
       (cases_lt h 16)
+
+  pub negate_settled : (h : ℕ) → Lawful o s h → SettledAlone o s h → SettledAlone o s (negate o s h)
+  negate_settled h l alone q k =
+      subst (λ v. T (o.settled v)) (sym (negate_value h q l alone k)) (laws.turn_settled (value o s h q) (codes laws w sound h q l) (alone q k))
+
+  -- twice NOT is the handle
+  pub negate_twice : (h : ℕ) → Lawful o s h → SettledAlone o s h → negate o s (negate o s h) ≡ h
+  negate_twice h l alone =
+      one_number laws w sound _ h (negate_lawful (negate o s h) (negate_lawful h l)) l
+      (λ q k.
+      negate_value (negate o s h) q (negate_lawful h l) (negate_settled h l alone) k
+      ∙ ap o.turn (negate_value h q l alone k)
+      ∙ laws.turn_back (value o s h q) (codes laws w sound h q l) (alone q k))

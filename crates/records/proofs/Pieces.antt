@@ -1,14 +1,14 @@
 -- The listed parts of a signal are its parts, and a part of a part is a part.
-use Rattle.std.proofs.Common.{◌≡◌, ℕ, suc, ◌+◌, ◌-◌, ◌*◌, ◌%◌, ◌^◌, ◌<◌, ◌≤◌, map, sym, ap, ◌∙◌, inl, inr, ⊎_elim, add_assoc, mod-lt, mod-eq_of_lt, mul_assoc, add-mul, arith, pow_pos, pow-add}
+use Rattle.std.proofs.Common.{◌≡◌, ℕ, suc, ◌+◌, ◌-◌, ◌*◌, ◌%◌, ◌^◌, ◌<◌, ◌≤◌, map, length, sym, ap, ◌∙◌, inl, inr, ⊎_elim, add_assoc, mod-lt, mod-eq_of_lt, mul_assoc, add-mul, arith, pow_pos, pow-add}
 use lib.Arith.{digits_lt}
 use lib.Pow.{high, low, mod-pow-add, mod-mod-pow}
 use Rattle.std.proofs.lemmas.Bool.{cases_lt}
 use Rattle.algebra.specs.Ops.{Ops}
-use Rattle.netlist.specs.Signals.{Signal, Agree}
+use Rattle.netlist.specs.Signals.{Signal, Agree, constant}
 use Rattle.netlist.specs.Parts.{below, part, parts}
-use Rattle.records.specs.Counts.{OnePart, PartOf}
+use Rattle.records.specs.Counts.{Coded, OnePart, PartOf, nth}
 use Rattle.records.proofs.Alike.{agree_trans, agree_sym, agree_refl}
-use Rattle.records.proofs.Anys.{Any, any_map, any_from_map, any_concat, any_from_concat, any_below, any_from_below}
+use Rattle.records.proofs.Anys.{Any, any_at, any_place, any_map, any_from_map, any_concat, any_from_concat, any_below, any_from_below}
 
 -- ---- the list of parts
 
@@ -29,6 +29,15 @@ from_parts P n s x =
     let g = any_from_below (λ a. P (part n s f.0 a)) (2 ^ f.0) (any_from_map P (part n s f.0) (below (2 ^ f.0)) f.2) in
     let h : f.0 < suc n = f.1 in
     (f.0, g.0, omega arith, g.1, g.2)
+
+-- each listed part is a part, and each part agrees with a listed one
+pub listed_is_part : (n : ℕ) (s : Signal) (i : ℕ) → i < length (parts n s) → PartOf n (nth (parts n s) i) s
+listed_is_part n s i h =
+    from_parts (Agree n (nth (parts n s) i)) n s
+    (any_at (Agree n (nth (parts n s) i)) (constant 0) (parts n s) i h (agree_refl n (nth (parts n s) i)))
+
+pub part_is_listed : (n : ℕ) (t s : Signal) → PartOf n t s → (i : ℕ) × (i < length (parts n s)) × Agree n t (nth (parts n s) i)
+part_is_listed n t s r = any_place (Agree n t) (constant 0) (parts n s) (in_parts (Agree n t) n s r.0 r.1 r.2 r.3 r.4)
 
 -- ---- parts of parts
 
@@ -124,3 +133,9 @@ one_of_parts o n s t k a hk ha (inr r) =
   where
     read : ℕ → ℕ
     read p = a * 2 ^ (n - k) + p % 2 ^ (n - k)
+
+-- a part of a signal of codes has codes for its values
+pub part_coded : (o : Ops) (n : ℕ) (t s : Signal) → PartOf n t s → Coded o n s → Coded o n t
+part_coded o n t s r coded p h =
+    let e = r.4 p h in
+    rw e (coded (r.1 * 2 ^ (n - r.0) + p % 2 ^ (n - r.0)) (part_pattern n r.0 r.1 p r.2 r.3))
