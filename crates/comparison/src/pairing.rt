@@ -63,9 +63,10 @@ pub(crate) fn check_pairs<G: Algebra, M: Memo>(
     for (pair, row) in found.iter_mut().enumerate() {
         let x = next_out(first, from_left);
         let y = next_out(second, from_right);
-        *row = check(table, algebra, memo, rows, left[x], right[y]).map_err(
-            |fault| PairRefusal { pair, fault },
-        )?;
+        *row = check(table, algebra, memo, rows, left[x], right[y]).map_err(|fault| PairRefusal {
+            pair,
+            fault,
+        })?;
         from_left = x + 1;
         from_right = y + 1;
     }
