@@ -6,7 +6,7 @@ ghost use Rattle.text.specs.Netlists.{Readable, line_row, LineTest, HeadRow, Hea
 use crate::fault::RowFault;
 use crate::field::{read_kind, read_number, read_second};
 use crate::header::{Header, Values};
-use netlist::Line;
+use netlist::{Line, MOST_INPUTS};
 
 // A row with its line feed.
 pub(crate) const ROW: usize = 25;
@@ -33,7 +33,7 @@ pub(crate) fn read_head(bytes: &[u8], at: usize) -> Result<Header, RowFault>
     let inputs = read_number::<6>(&row[12..18]).ok_or(RowFault::Field)?;
     let number = read_number::<6>(&row[18..24]).ok_or(RowFault::Field)?;
     let values = Values::of(number).ok_or(RowFault::Limits)?;
-    if inputs > 60 {
+    if inputs > u32::from(MOST_INPUTS) {
         return Err(RowFault::Limits);
     }
     Ok(Header {

@@ -9,16 +9,13 @@ use crate::trial::{Trial, UNANSWERED, UNCHECKED};
 use algebra::Algebra;
 use comparison::{Call, Checked, ReplayFault, Told, replay_apart};
 use diagram::{Memo, Row, Table, TableFault};
-use netlist::Line;
+use netlist::{Line, MOST_INPUTS};
 use std::alloc::{AllocError, Global};
 use std::fmt;
 
 const ROUNDS: u32 = 5;
 
 const UNTOLD: Told = Told::Handle(Ok(UNANSWERED));
-
-// The most inputs that a table can have.
-const MOST_INPUTS: u8 = 60;
 
 // What a list of calls is made with, and how many entries for handles and findings it is lent.
 #[derive(Clone, Copy)]

@@ -40,15 +40,15 @@ returns-in_err-values c =
     missing _ _ _ _ Limits _ _ c.in_err-values.ensures.value c.from_residual-in_err-values.ensures.1 c.of.ensures
     (λ none. head_fails_limits row _ f.0 f.1 _ _ _ w (is_head row _ f.0 f.1 _ _ _ w n i v) (λ a. ⊎_elim (none Two) (none Five) a.1))
 
-pub returns-then-inputs-gt60 : goal.returns-then-inputs-gt60
-returns-then-inputs-gt60 c =
+pub returns-then-inputs-from : goal.returns-then-inputs-from
+returns-then-inputs-from c =
     let row = c.in_ok-row.row.now in
     let f = MatchOption-at_some _ _ c.in_ok-row.row c.in_ok-row.ensures.ok_part c.row_at.ensures in
     let w : word_of row ≡ head_word = not_unlike (word_of row) c.as_slice.result.now c.ne.result c.ne.ensures c.if-ne.false ∙ c.as_slice.ensures in
     let n = MatchOption-at_some _ _ _ c.in_ok-lines.ensures.ok_part c.read_number.ensures in
     let i = MatchOption-at_some _ _ _ c.in_ok-inputs.ensures.ok_part c.read_number-2.ensures in
     let v = MatchOption-at_some _ _ _ c.in_ok-number.ensures.ok_part c.read_number-3.ensures in
-    head_fails_limits row _ f.0 f.1 _ _ _ w (is_head row _ f.0 f.1 _ _ _ w n i v) (λ a. let few = a.0 in omega (arith, few, c.if-inputs-gt60.true))
+    head_fails_limits row _ f.0 f.1 _ _ _ w (is_head row _ f.0 f.1 _ _ _ w n i v) (λ a. let few = a.0 in omega (arith, few, c.if-inputs-from.true))
 
 pub returns : goal.returns
 returns c =
@@ -59,4 +59,4 @@ returns c =
     let i = MatchOption-at_some _ _ _ c.in_ok-inputs.ensures.ok_part c.read_number-2.ensures in
     let v = MatchOption-at_some _ _ _ c.in_ok-number.ensures.ok_part c.read_number-3.ensures in
     let k = MatchOption-at_some _ _ _ c.in_ok-values.ensures.ok_part c.of.ensures in
-    (subst (HeadRow (row_at c.args.bytes.now c.args.at) c.in_ok-lines.lines c.in_ok-inputs.inputs) k (is_head row _ f.0 f.1 _ _ _ w n i v), c.if-inputs-gt60.false)
+    (subst (HeadRow (row_at c.args.bytes.now c.args.at) c.in_ok-lines.lines c.in_ok-inputs.inputs) k (is_head row _ f.0 f.1 _ _ _ w n i v), (omega arith))
