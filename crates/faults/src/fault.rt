@@ -15,7 +15,7 @@ pub enum LineReason {
 }
 
 impl LineReason {
-    // The number of the refusal.
+    // The number of the refusal. No cast gives it, since a fault that is held has its own.
     pub fn number(self) -> u8
         ensures { result ≡ line_reason_number self }
     {
@@ -63,7 +63,7 @@ pub enum LayFault {
 }
 
 impl LayFault {
-    // The number of the refusal.
+    // The number of the refusal. No cast gives it, since a fault that is held has its own.
     pub fn number(self) -> u8
         ensures { result ≡ lay_fault_number self }
     {
@@ -112,7 +112,7 @@ pub enum CompareFault {
 }
 
 impl CompareFault {
-    // The number of the refusal.
+    // The number of the refusal. No cast gives it, since a fault that is held has its own.
     pub fn number(self) -> u8
         ensures { result ≡ compare_fault_number self }
     {

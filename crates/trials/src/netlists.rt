@@ -39,7 +39,7 @@ impl<'a, G: Algebra, M: Memo> Trial<'a, G, M> {
         })
     }
 
-    // Lays the first netlist on a new table. Whether all comes out right.
+    // Lays the first netlist on a new table. Whether all comes out right. Its call and lists are not those of a compare.
     fn try_lay(&mut self, netlists: &NetlistPair) -> Result<bool, AllocError> {
         let setting = Setting::enough(netlists.inputs, self.any_room());
         let lines = netlists.first.as_slice();

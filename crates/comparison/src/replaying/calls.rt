@@ -12,7 +12,7 @@ use laying::lay;
 use netlist::{Line, count_outs};
 
 impl ReplayFault {
-    // The number of the refusal.
+    // The number of the refusal. No cast gives it, since a fault that is held has its own.
     pub fn number(self) -> u8
         ensures { result ≡ replay_fault_number self }
     {
@@ -57,7 +57,7 @@ impl Call {
     }
 }
 
-// Makes one call.
+// Makes one call. By a `match`: a call is a value that a caller hands in, not a step of ours.
 fn make_call<G: Algebra, M: Memo>(
     table: &mut Table,
     algebra: &G,

@@ -53,7 +53,7 @@ impl Places {
         }
     }
 
-    // Takes the last record out. It is the first of its chain.
+    // Takes the last record out. It is the first of its chain, which is looked up while the index is whole: so no `pop`.
     fn drop_last(&mut self)
         requires { 0 < length (in_use self.old) }
         ensures list { in_use self.new ≡ take (length (in_use self.old) - 1) (in_use self.old) }

@@ -37,7 +37,8 @@ impl Workspace {
         })
     }
 
-    // A workspace for netlists of at most 512 lines, with a table of 1,024 places and a memo of 256 rows.
+    // A workspace for netlists of at most 512 lines, with a table of 1,024 places and a memo of 256 rows. This one and the
+    // next are calls and not constants, so that a contract says their sizes.
     pub fn standard(heap: Global) -> Result<Workspace, AllocError>
         ensures { IfOk result (λ w. (lines_of w ≡ 512) × (places_of w ≡ 1024) × (memo_rows_of w ≡ 256)) }
     {
