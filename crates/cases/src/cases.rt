@@ -2,7 +2,7 @@ use crate::codes::{S, X, Z};
 use crate::desk::Desk;
 use crate::told::{PrintedFinding, PrintedHandle, Refused};
 use algebra::{FiveValued, Op, TwoValued};
-use comparison::{Call, Told, replay};
+use comparison::{Call, Checked, Told, replay};
 use diagram::{Memo, NoMemo, Row, RowMemo, Table};
 use netlist::Finding;
 
@@ -39,6 +39,8 @@ pub(crate) fn two_places_replayed(rt: &HostRuntime) -> anyhow::Result<()> {
     let mut table = Table::new(rt.alloc(), 2)?;
     let mut memo = RowMemo::new(rt.alloc(), 8)?;
     let mut rows = [Row::default(); 3];
+    let mut handles = [0u32; 1];
+    let mut found = [Checked::default(); 1];
     let mut told = [Told::Handle(Ok(0)); 6];
     replay(
         &mut table,
@@ -48,8 +50,8 @@ pub(crate) fn two_places_replayed(rt: &HostRuntime) -> anyhow::Result<()> {
         2,
         &[],
         &calls,
-        &mut [],
-        &mut [],
+        &mut handles,
+        &mut found,
         &mut told,
     )
     .map_err(Refused::Replay)?;

@@ -4,13 +4,13 @@ use comparison::{Checked, check, lay};
 use diagram::{Memo, Row, Table};
 use netlist::Line;
 
-// A table of up to three inputs, with what its calls take beside it.
+// A table with what its calls take beside it: as many work rows as they ask for, and none more.
 #[derive(Drop)]
 pub(crate) struct Desk<G, M> {
     pub table: Table,
     pub algebra: G,
     pub memo: M,
-    pub rows: [Row; 4],
+    pub rows: Vec<Row>,
 }
 
 impl<G: Algebra + Drop, M: Memo + Drop> Desk<G, M> {
@@ -26,7 +26,7 @@ impl<G: Algebra + Drop, M: Memo + Drop> Desk<G, M> {
             table: Table::new(rt.alloc(), places)?,
             algebra,
             memo,
-            rows: [Row::default(); 4],
+            rows: vec![in rt.alloc(); Row::default(); usize::from(inputs) + 1]?,
         };
         desk.table
             .start(&mut desk.memo, inputs)

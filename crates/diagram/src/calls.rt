@@ -83,6 +83,7 @@ impl Table {
     }
 
     // The walk of a task; a table that it finds full is left as it was.
+    #[inline(always)]
     fn apply<G: Algebra, M: Memo>(
         &mut self,
         codes: &Codes<G>,

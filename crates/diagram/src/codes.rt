@@ -12,8 +12,8 @@ pub(crate) use masks::{MOST_CODES, is_up};
 #[derive(Drop)]
 pub(crate) struct Codes<'a, G: Algebra> {
     pub algebra: &'a G,
-    loose: u16,
-    firm: u16,
+    pub loose: u16,
+    pub firm: u16,
     ghost loose_is: { loose ≡ loose_codes G.ops },
     ghost firm_is: { firm ≡ firm_codes G.ops },
 }

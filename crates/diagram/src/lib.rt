@@ -11,6 +11,6 @@ mod table;
 mod task;
 mod walk;
 
-pub use memo::{Memo, NoMemo, RowMemo};
+pub use memo::{Key, Memo, NoMemo, RowMemo};
 pub use records::{Record, Row, TableFault, counting_stands, one_number_stands};
 pub use table::Table;

@@ -1,7 +1,7 @@
 -- What rows say of a key after a row is written, and where no row is of the epoch. Assumes nothing.
-use Rattle.std.proofs.Common.{◌≡◌, ℕ, ◌<◌, ◌≤◌, ◌⊎◌, List, length, set, replicate, Some, None, arith}
-use Rattle.std.proofs.lemmas.List.{get_or-replicate}
-use Rattle.std.proofs.lemmas.Bool.{cases_eq}
+use Rattle.std.proofs.Common.{◌≡◌, ℕ, ◌<◌, ◌≤◌, ◌⊎◌, List, length, set, replicate, Some, None, ap, ⊎_elim, arith}
+use Rattle.std.proofs.lemmas.List.{get_or_past, get_or-replicate}
+use Rattle.std.proofs.lemmas.Bool.{cases_eq, cases_lt}
 use Rattle.std.proofs.lemmas.Grind.{common_steps}
 use Rattle.std.proofs.lemmas.Bool.Decides.{nat_tests}
 use Rattle.memo.specs.declared.rows.Row.{Row}
@@ -20,13 +20,22 @@ told_other e o a b r differs = grind (arith, nat_tests)
 told_past : (e o a b : ℕ) (r : Row) → r.epoch < e → told e r o a b ≡ None
 told_past e o a b r l = grind (arith, nat_tests)
 
-none_past : (e f mask : ℕ) (rows : List Row) → Past f rows → f < e → NoPairs (told_by e mask rows)
+pub none_past : (e f mask : ℕ) (rows : List Row) → Past f rows → f < e → NoPairs (told_by e mask rows)
 none_past e f mask rows past l o a b =
     told_past e o a b (row_at rows (bucket_of mask o a b)) (omega (arith, past (bucket_of mask o a b)))
 
 -- a row that is written counts as of the epoch
 pub past_set : (e i : ℕ) (rows : List Row) (r : Row) → i < length rows → r.epoch ≤ e → Past e rows → Past e (set rows i r)
 past_set e i rows r l now past j = grind (arith, common_steps, past j)
+
+-- rows that are all blank
+pub past_none : (rows : List Row) → ((i : ℕ) → i < length rows → row_at rows i ≡ blank_row) → Past 0 rows
+past_none rows blank i =
+    let at : row_at rows i ≡ blank_row = ⊎_elim (λ l. blank i l) (λ l. get_or_past rows i blank_row l) (cases_lt i (length rows)) in
+    omega (arith, ap (λ r. r.epoch) at)
+
+pub past_more : (e f : ℕ) (rows : List Row) → e ≤ f → Past e rows → Past f rows
+past_more e f rows l past i = omega (arith, past i)
 
 -- rows that were never written
 pub fresh : (mask n : ℕ) (rows : List Row) (r : Row) → r.epoch ≡ 0 → rows ≡ replicate n r → Past 1 rows × NoPairs (told_by 1 mask rows)

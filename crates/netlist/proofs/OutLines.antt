@@ -41,6 +41,9 @@ pub record Kept (ls : List Line) (old now : List ℕ) (i count : ℕ) : Type 0 w
   pub low : count ≤ i
   pub rest : drop i now ≡ drop i old
 
+pub kept_none : (ls : List Line) (old : List ℕ) → Kept ls old old 0 0
+kept_none ls old = record { front = refl; counted = omega arith; low = omega arith; rest = refl }
+
 rest_more : (old now : List ℕ) (i : ℕ) → drop i now ≡ drop i old → drop (i + 1) now ≡ drop (i + 1) old
 rest_more old now i e = sym (drop-drop 1 i now) ∙ ap (drop 1) e ∙ drop-drop 1 i old
 

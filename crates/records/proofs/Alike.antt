@@ -100,6 +100,10 @@ one_trans o n s t u (inl e) (inr r) = inr (agree_opposite o n s t u e r)
 one_trans o n s t u (inr r) (inl f) = inr (opposite_agree o n s t u r f)
 one_trans o n s t u (inr r) (inr q) = inl (agree_trans n s (turned o t) u r.right_turned q.left_turned)
 
+-- what agrees may stand on either side
+pub one_agree : (o : Ops) (n : ℕ) (s s' t t' : Signal) → Agree n s s' → Agree n t t' → OnePart o n s t → OnePart o n s' t'
+one_agree o n s s' t t' e f r = one_trans o n s' s t' (inl (agree_sym n s s' e)) (one_trans o n s t t' r (inl f))
+
 -- a settled signal and its NOT are one part
 pub one_turned : (o : Ops) (n : ℕ) (s t : Signal) → Laws o → Coded o n s → Settled o n s → Agree n (turned o s) t → OnePart o n s t
 one_turned o n s t laws coded settled e = inr (record {

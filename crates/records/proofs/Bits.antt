@@ -1,5 +1,5 @@
 -- Bits of pattern numbers, and patterns whose first bits are fixed. Assumes nothing.
-use Rattle.std.proofs.Common.{◌≡◌, ℕ, zero, suc, ◌+◌, ◌-◌, ◌*◌, ◌/◌, ◌%◌, ◌^◌, ◌<◌, ◌≤◌, sym, ap, ◌∙◌, subst, ⊎_elim, mod-eq_of_lt, div-one, arith}
+use Rattle.std.proofs.Common.{◌≡◌, ℕ, zero, suc, ◌+◌, ◌-◌, ◌*◌, ◌/◌, ◌%◌, ◌^◌, ◌<◌, ◌≤◌, sym, ap, ◌∙◌, subst, ⊎_elim, mod-eq_of_lt, div-one, arith, add-mul, one-mul, pow_mono}
 use native.Mathlib.Nat.{div-eq_of_lt, mod-le}
 use lib.Pow.{mod-mod-pow}
 use Rattle.std.proofs.lemmas.Nat.{pow_pos, pow-add, shr-shr, shr_split, field_of, shr_high, mod_low, mod_below, div_below, mul-add-lt, mul-le}
@@ -71,6 +71,12 @@ chosen_bit n i b p l h = fixed_last n i b p l ∙ omega arith
 -- the first k bits cleared
 pub rest_after : (n k p i : ℕ) → k ≤ i → i < n → bit n (p % 2 ^ (n - k)) i ≡ bit n p i
 rest_after n k p i l h = digit_low p (n - 1 - i) (n - k) (omega arith)
+
+pub rest_before : (n k p i : ℕ) → k ≤ n → i < k → bit n (p % 2 ^ (n - k)) i ≡ 0
+rest_before n k p i l h =
+    let e : 2 ^ (n - k) ≤ 2 ^ (n - 1 - i) = pow_mono (omega arith) in
+    let d = rest_below n k p in
+    ap (λ x. x % 2) (div-eq_of_lt {n = p % 2 ^ (n - k)} {m = 2 ^ (n - 1 - i)} (omega arith))
 
 -- no bit fixed
 pub fixed_none : (n a p : ℕ) → a < 1 → p < 2 ^ n → fixed n 0 a p ≡ p
@@ -151,6 +157,19 @@ with_bit_other n p i b j l m s ne =
     ∙ ap (λ x. (p / 2 ^ x) % 2) c)
     (λ h. fixed_after n (i + 1) (p / 2 ^ (n - i) * 2 + b) p j (omega arith) m)
     (cases_lt j i)
+
+-- clearing a bit that is up makes the pattern smaller
+pub cleared_smaller : (n p i : ℕ) → i < n → bit n p i ≡ 1 → with_bit n p i 0 < p
+cleared_smaller n p i l e =
+    let k = n - (i + 1) in
+    let same : n - 1 - i ≡ k = omega arith in
+    let x = p / 2 ^ k in
+    let up : x % 2 ≡ 1 = ap (λ y. (p / 2 ^ y) % 2) (sym same) ∙ e in
+    let half : p / 2 ^ (n - i) ≡ x / 2 = ap (λ y. p / 2 ^ y) (omega arith) ∙ sym (shr-shr p k 1) in
+    let whole = shr_split p k in
+    let fewer : (p / 2 ^ (n - i) * 2 + 0) + 1 ≡ x = omega arith in
+    let split : x * 2 ^ k ≡ (p / 2 ^ (n - i) * 2 + 0) * 2 ^ k + 2 ^ k = ap (λ y. y * 2 ^ k) (sym fewer) ∙ add-mul (p / 2 ^ (n - i) * 2 + 0) 1 (2 ^ k) ∙ ap (λ y. (p / 2 ^ (n - i) * 2 + 0) * 2 ^ k + y) (one-mul (2 ^ k)) in
+    omega (arith, pow_pos k)
 
 -- two patterns with the same bits are one
 pub same_bits : (n p q : ℕ) → p < 2 ^ n → q < 2 ^ n → ((i : ℕ) → i < n → bit n p i ≡ bit n q i) → p ≡ q

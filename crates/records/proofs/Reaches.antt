@@ -1,9 +1,10 @@
 -- The reach of a handle says which values it has. Assumes nothing.
+use Rattle.std.proofs.lemmas.Nat.{pow_below}
 use Rattle.std.proofs.Common.{◌≡◌, ℕ, zero, suc, ◌+◌, ◌-◌, ◌*◌, ◌/◌, ◌%◌, ◌^◌, ◌<◌, true, false, ◌||◌, eqb, ◌⊎◌, sym, ap, ◌∙◌, subst, inl, inr, ⊎_elim, arith, pow_pos, pow-add}
 use native.Mathlib.Nat.{zero-div, div-eq_of_lt, div_self}
-use lib.Bits.{bit_or, or_shr, or_mod}
+use lib.Bits.{bit_or, or_shr, or_mod, or_lt}
 use lib.Pow.{pow-lt, shl-shr}
-use Rattle.std.proofs.lemmas.Bool.{cases_lt, cases_Bool, cases_order, cond-true, cond-false, eqb-true, or_cases, or_left, or_right, both_ways}
+use Rattle.std.proofs.lemmas.Bool.{cases_lt, cases_Bool, cases_order, cond-true, cond-false, eqb-true, or_cases, or_left, or_right, both_ways, cond_both}
 use Rattle.algebra.specs.Ops.{Ops}
 use Rattle.algebra.specs.Laws.{Laws}
 use Rattle.records.specs.Stores.{Store, handle, place, marked, value, up}
@@ -105,6 +106,18 @@ up_turned_from o m (suc k) v e =
     (up_union_cases rest (2 ^ o.turn k) v (ap (λ z. up z v) (sym (cond-true (up m k) (bit_or rest (2 ^ o.turn k)) rest d)) ∙ e)))
     (λ d. up_turned_from o m k v (ap (λ z. up z v) (sym (cond-false (up m k) (bit_or rest (2 ^ o.turn k)) rest d)) ∙ e))
     (cases_Bool (up m k))
+
+-- no mask has a bit past the last code
+pub turn_mask_fits : {o : Ops} → Laws o → (m : ℕ) → turn_mask o m < 2 ^ 16
+unfolding turn_below
+turn_mask_fits {o} laws m = fits 16
+  where
+    fits : (k : ℕ) → turn_below o m k < 2 ^ 16
+    fits zero = pow_pos 16
+    fits (suc k) =
+        cond_both (up m k) (bit_or (turn_below o m k) (2 ^ o.turn k)) (turn_below o m k) (λ x. x < 2 ^ 16)
+        (λ _. or_lt 16 (turn_below o m k) (2 ^ o.turn k) (fits k) (pow_below (o.turn k) 16 (omega (arith, laws.turn_below k, laws.sixteen_at_most))))
+        (λ _. fits k)
 
 -- a handle that is the NOT of another reaches the NOT of its values
 pub reach_turned : {o : Ops} → Laws o → (s : Store) (g h m : ℕ) → ((q : ℕ) → value o s g q < o.count)

@@ -6,7 +6,7 @@ use native.Mathlib.Bridge.{le_prop}
 use std.HLevel.{Π_prop, ⊥_prop}
 use base.Stored.{Coded-set, coded_ℕ}
 use Rattle.std.proofs.lemmas.Nat.{div_below}
-use Rattle.std.proofs.lemmas.List.{get_or-take, get_or_append_left, get_or_push, length-take-le, length_push}
+use Rattle.std.proofs.lemmas.List.{get_or-take, get_or_append_left, get_or_push, length-take-le, length_push, ext_get_or}
 use Rattle.std.proofs.lemmas.Bool.{cases_lt, lt-ltb, le-ltb, cond-true, cond-false}
 use Rattle.records.specs.declared.record.Record.{Record}
 use Rattle.records.specs.Keys as keys
@@ -167,3 +167,13 @@ pub well_adds : (s t : Store) (n : ℕ) (r : Record) (o : Option ℕ) → Well s
 well_adds s t n r None w fits d = subst Well (sym d.same) w
 well_adds s t n r (Some p) w fits (inl d) = subst Well (sym d.same) w
 well_adds s t n r (Some p) w fits (inr d) = well_added w fits d.lacked d.added
+
+-- a table that grew and went back is as it was
+pub returned : (a b : ℕ) (rs ts : List Record) (t : Store) → Grows (store a rs) t → Back t (length rs) (store b ts) → store b ts ≡ store a rs
+returned a b rs ts t grows back =
+    let inputs : b ≡ a = back.inputs ∙ grows.inputs in
+    let list : ts ≡ rs =
+    ext_get_or blank ts rs back.used (λ p l.
+    let k : p < length rs = omega (arith, back.used) in
+    back.same p k ∙ grows.same p k) in
+    ap (λ n. store n ts) inputs ∙ ap (store a) list

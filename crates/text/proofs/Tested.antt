@@ -14,6 +14,16 @@ use Rattle.text.proofs.Framing.{by_fields, at_word, at_first, at_second, row_fra
 
 -- the first test that fails
 module _ (P : RowFault → Type 0) where
+  pub fails_incomplete : (P Incomplete → ⊥) → FirstFailed P Incomplete
+  fails_incomplete n = record { before = earlier; here = n }
+    where
+      earlier : (test : RowFault) → order test < order Incomplete → P test
+      earlier Incomplete h = absurd (omega arith)
+      earlier Word h = absurd (omega arith)
+      earlier Field h = absurd (omega arith)
+      earlier OutOfTurn h = absurd (omega arith)
+      earlier Limits h = absurd (omega arith)
+
   pub fails_word : P Incomplete → (P Word → ⊥) → FirstFailed P Word
   fails_word p n = record { before = earlier; here = n }
     where

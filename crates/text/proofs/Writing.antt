@@ -1,6 +1,6 @@
 -- Texts written one after the other. Assumes nothing.
-use Rattle.std.proofs.Common.{◌≡◌, ℕ, ◌+◌, ◌≤◌, List, [], ◌++◌, length, take, drop, sym, ap, ◌∙◌, subst, append_assoc, arith, length-drop, drop-drop, take_at, drop_at}
-use Rattle.std.proofs.lemmas.List.{length-append, length-take-le, take-append-drop}
+use Rattle.std.proofs.Common.{◌≡◌, ℕ, ◌+◌, ◌≤◌, List, [], ◌++◌, length, take, drop, sym, ap, ◌∙◌, subst, append_assoc, arith, length-drop, drop-drop, take_at, drop_at, suc, ◌<◌, ◌∷◌, set, refl}
+use Rattle.std.proofs.lemmas.List.{length-append, length-take-le, take-append-drop, set_split}
 use Rattle.text.specs.Reports.{Written}
 
 -- nothing is written
@@ -8,6 +8,12 @@ pub written_none : (at : ℕ) (xs : List ℕ) → at ≤ length xs → Written [
 written_none at xs h =
     let e : at + 0 ≡ at = omega arith in
     record { fits = omega arith; after_is = sym (ap (λ n. take at xs ++ drop n xs) e ∙ take-append-drop at xs); end_is = sym e }
+
+-- one byte
+pub written_set : (at v : ℕ) (xs : List ℕ) → at < length xs → Written (v ∷ []) at xs (set xs at v) (at + 1)
+written_set at v xs h =
+    let e : suc at ≡ at + 1 = omega arith in
+    record { fits = omega arith; after_is = set_split xs at v h ∙ ap (λ n. take at xs ++ (v ∷ drop n xs)) e; end_is = refl }
 
 module _ (s : List ℕ) (at : ℕ) (x y : List ℕ) (e : ℕ) (w : Written s at x y e) where
   -- the bytes keep their length

@@ -1,5 +1,6 @@
 // Holding what calls on a table were told to the evaluator's signals.
 use crate::book::Book;
+use crate::numbers::is_reason_named;
 use crate::parts::missing_parts;
 use crate::score::Score;
 use crate::signals::{Signal, joined, patterns, signals_of, turned};
@@ -185,7 +186,7 @@ impl<'a, G: Algebra> Audit<'a, G> {
             })
     }
 
-    // Whether an answer is the refusal that is due.
+    // Whether an answer is the refusal that is due, by its number too.
     pub(crate) fn is_refused(
         &mut self,
         due: LineReason,
@@ -194,7 +195,7 @@ impl<'a, G: Algebra> Audit<'a, G> {
         if let Err(told) = answer {
             self.score.refuse(told.number())?;
         }
-        Ok(answer == Err(due))
+        Ok(answer == Err(due) && is_reason_named(due))
     }
 
     // Whether an answer is right where a call has this signal, and no refusal is due but that the table is full: it is full

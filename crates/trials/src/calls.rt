@@ -2,7 +2,7 @@
 use crate::audit::{Answer, Audit, NoSignal};
 use crate::signals::{Signal, finding};
 use algebra::{Algebra, Op};
-use comparison::{Call, Checked, LineReason, Told};
+use comparison::{Call, Checked, LineReason, Span, Told};
 use diagram::TableFault;
 use netlist::{Finding, Line, count_outs};
 use std::alloc::AllocError;
@@ -22,6 +22,12 @@ pub(crate) fn past<T>(list: &[T], count: usize) -> &[T] {
     &list[count.min(list.len())..]
 }
 
+// The lines of a span, cut here and not by `Span::of`, by which the audited calls cut them.
+fn lines_of(lines: &[Line], span: Span) -> &[Line] {
+    let rest = past(lines, span.from);
+    &rest[..span.count.min(rest.len())]
+}
+
 fn answer(told: Result<u32, TableFault>) -> Answer {
     told.map_err(LineReason::Table)
 }
@@ -30,10 +36,10 @@ impl<'a, 'w> Replayed<'a, 'w> {
     // What a call leaves of the lists for handles and findings: counted here, not asked of the library that is audited.
     fn after(self, call: Call) -> Replayed<'a, 'w> {
         let (handles, found) = match call {
-            Call::Lay(span) => (span.of(self.lines).len(), 0),
+            Call::Lay(span) => (lines_of(self.lines, span).len(), 0),
             Call::Compare(a, b) => {
-                let first = a.of(self.lines);
-                let second = b.of(self.lines);
+                let first = lines_of(self.lines, a);
+                let second = lines_of(self.lines, b);
                 (first.len().saturating_add(second.len()), count_outs(first))
             }
             _ => (0, 0),
@@ -122,11 +128,11 @@ impl<'a, G: Algebra> Audit<'a, G> {
             }
             (Call::Check(x, y), Told::Check(told)) => self.is_check_right(x, y, told),
             (Call::Lay(span), Told::Lay(told)) => {
-                self.is_lay_right(span.of(replayed.lines), replayed.handles, told)
+                self.is_lay_right(lines_of(replayed.lines, span), replayed.handles, told)
             }
             (Call::Compare(a, b), Told::Compare(told)) => self.is_compare_right(
-                a.of(replayed.lines),
-                b.of(replayed.lines),
+                lines_of(replayed.lines, a),
+                lines_of(replayed.lines, b),
                 replayed.handles,
                 replayed.found,
                 told,

@@ -1,6 +1,7 @@
 // Holding what lay and compare were told to the evaluator's signals, line by line and pair by pair.
 use crate::audit::Audit;
 use crate::calls::past;
+use crate::numbers::{is_compare_named, is_lay_named};
 use crate::signals::Signal;
 use algebra::{Algebra, Op};
 use comparison::{Checked, CompareFault, LayFault, LineReason, LineRefusal, PairRefusal};
@@ -8,6 +9,9 @@ use diagram::TableFault;
 use evaluation::compare_by_patterns;
 use netlist::{CountFault, Finding, Line, check_line, count_outs};
 use std::alloc::{AllocError, Global};
+
+// The number of an OUT line, known here by itself: the evaluator and the calls ask `Line::is_out`.
+const OUT: u8 = 8;
 
 // A netlist, with the signals of its lines.
 #[derive(Drop)]
@@ -22,7 +26,7 @@ impl<'a> Netlist<'a> {
         self.lines
             .iter()
             .zip(self.signals.iter())
-            .filter(|(line, _)| line.is_out())
+            .filter(|(line, _)| line.kind == OUT)
             .map(|(_, signal)| signal)
             .collect(heap)
     }
@@ -110,6 +114,9 @@ impl<'a, G: Algebra> Audit<'a, G> {
         handles: &[u32],
         told: Result<(), LayFault>,
     ) -> Result<bool, AllocError> {
+        if told.is_err_and(|fault| !is_lay_named(fault)) {
+            return Ok(false);
+        }
         if let Err(due) = self.check_lay(lines, handles) {
             self.score.refuse(due.number())?;
             return Ok(told == Err(due));
@@ -185,6 +192,9 @@ impl<'a, G: Algebra> Audit<'a, G> {
         found: &[Checked],
         told: Result<usize, CompareFault>,
     ) -> Result<bool, AllocError> {
+        if told.is_err_and(|fault| !is_compare_named(fault)) {
+            return Ok(false);
+        }
         let pairs = match self.check_compare(first, second, handles, found) {
             Ok(pairs) => pairs,
             Err(due) => {

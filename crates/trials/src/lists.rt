@@ -4,14 +4,18 @@ use crate::audit::{Outcome, Setting};
 use crate::calls::Replayed;
 use crate::choosing::Chooser;
 use crate::making::count_of;
+use crate::numbers::is_replay_named;
 use crate::printing::{PrintedCalls, PrintedLines};
 use crate::trial::{Trial, UNANSWERED, UNCHECKED};
 use algebra::Algebra;
 use comparison::{Call, Checked, ReplayFault, Told, replay_apart};
 use diagram::{Memo, Row, Table, TableFault};
-use netlist::{Line, MOST_INPUTS};
+use netlist::Line;
 use std::alloc::{AllocError, Global};
 use std::fmt;
+
+// The most inputs that a table is to take, known here by itself.
+const MOST_INPUTS: u8 = 60;
 
 const ROUNDS: u32 = 5;
 
@@ -175,7 +179,7 @@ impl<'a, G: Algebra, M: Memo> Trial<'a, G, M> {
         if let Err(fault) = answer {
             self.score.refuse(fault.number())?;
         }
-        Ok(answer == Err(due))
+        Ok(answer == Err(due) && is_replay_named(due))
     }
 
     // Whether a list of calls is refused for an entry too few for what is told, and then for too many inputs.

@@ -11,6 +11,7 @@ mod lines;
 mod lists;
 mod making;
 mod netlists;
+mod numbers;
 mod parts;
 mod printing;
 mod score;

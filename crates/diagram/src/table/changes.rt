@@ -62,6 +62,7 @@ impl Table {
     }
 
     // The handle that was made, or, where the table was found full, back to the first `used` places.
+    #[inline(always)]
     pub(crate) fn settle<M: Memo>(
         &mut self,
         memo: &mut M,

@@ -67,7 +67,9 @@ impl Table {
         Kept { record, turned }
     }
 
-    // The handle that is `low` where the input's bit is down and `high` where it is up. At most one place is taken.
+    // The handle that is `low` where the input's bit is down and `high` where it is up. At most one place is taken. Inlined,
+    // as are `settle` and `apply`: for an input both sides are known, so that little is left of it.
+    #[inline(always)]
     pub(crate) fn make<G: Algebra>(
         &mut self,
         codes: &Codes<G>,
