@@ -50,7 +50,7 @@ fn tally_netlist<G: Algebra + Drop>(
     lines: &[Line],
 ) -> anyhow::Result<Tally> {
     let memo = RowMemo::new(rt.alloc(), 8)?;
-    let mut desk = Desk::new(rt, algebra, memo, places, inputs)?;
+    let mut desk = Desk::new(rt, algebra, memo, places, inputs, 4)?;
     let mut handles = vec![in rt.alloc(); 0u32; lines.len()]?;
     desk.lay(lines, &mut handles)?;
     let mut values = vec![in rt.alloc(); 0u8; lines.len()]?;
@@ -114,7 +114,7 @@ fn pair_by_table<M: Memo + Drop>(
     first: &[Line],
     second: &[Line],
 ) -> anyhow::Result<Finding> {
-    let mut desk = Desk::new(rt, FiveValued, memo, 64, 2)?;
+    let mut desk = Desk::new(rt, FiveValued, memo, 64, 2, 4)?;
     let mut handles = vec![in rt.alloc(); 0u32; first.len() + second.len()]?;
     let mut found = [Checked::default(); 1];
     compare(

@@ -9,7 +9,7 @@ use netlist::Finding;
 // Two values and two places: both inputs fill them, so their AND is told full; an input AND its NOT still is 0.
 pub(crate) fn two_places(rt: &HostRuntime) -> anyhow::Result<()> {
     let memo = RowMemo::new(rt.alloc(), 8)?;
-    let mut desk = Desk::new(rt, TwoValued, memo, 2, 2)?;
+    let mut desk = Desk::new(rt, TwoValued, memo, 2, 2, 3)?;
     let a = desk.input(0)?;
     let b = desk.input(1)?;
     let both = desk.join(Op::And, a, b);
@@ -82,7 +82,7 @@ pub(crate) fn inputs_limit(rt: &HostRuntime) -> anyhow::Result<()> {
 // "X if b, else S" and that of c, and its NOT takes no place.
 pub(crate) fn three_parts(rt: &HostRuntime) -> anyhow::Result<()> {
     let memo = RowMemo::new(rt.alloc(), 8)?;
-    let mut desk = Desk::new(rt, FiveValued, memo, 64, 3)?;
+    let mut desk = Desk::new(rt, FiveValued, memo, 64, 3, 4)?;
     let a = desk.input(0)?;
     let b = desk.input(1)?;
     let c = desk.input(2)?;
@@ -102,7 +102,7 @@ pub(crate) fn three_parts(rt: &HostRuntime) -> anyhow::Result<()> {
 // NOT NOT of a floating wire is unknown.
 pub(crate) fn floating_turned(rt: &HostRuntime) -> anyhow::Result<()> {
     let memo = RowMemo::new(rt.alloc(), 8)?;
-    let mut desk = Desk::new(rt, FiveValued, memo, 64, 1)?;
+    let mut desk = Desk::new(rt, FiveValued, memo, 64, 1, 2)?;
     let once = desk.turn(Z)?;
     let twice = desk.turn(once)?;
     println!(rt; "NOT of a floating wire: handle {once}, NOT NOT: handle {twice}")?;
@@ -116,7 +116,7 @@ pub(crate) fn floating_turned(rt: &HostRuntime) -> anyhow::Result<()> {
 
 // The finding of two drivers on a bus against a gate that takes the floating bus for 1, with some memo.
 fn bus_finding<M: Memo + Drop>(rt: &HostRuntime, memo: M) -> anyhow::Result<Finding> {
-    let mut desk = Desk::new(rt, FiveValued, memo, 64, 3)?;
+    let mut desk = Desk::new(rt, FiveValued, memo, 64, 3, 4)?;
     let enable = desk.input(0)?;
     let one = desk.input(1)?;
     let two = desk.input(2)?;

@@ -4,13 +4,15 @@ use comparison::{Checked, check, lay};
 use diagram::{Memo, Row, Table};
 use netlist::Line;
 
-// A table with what its calls take beside it: as many work rows as they ask for, and none more.
+// A table of up to three inputs, with what its calls take beside it: so many of its work rows as are asked for, which is in
+// most cases as few as will do.
 #[derive(Drop)]
 pub(crate) struct Desk<G, M> {
     pub table: Table,
     pub algebra: G,
     pub memo: M,
-    pub rows: Vec<Row>,
+    pub rows: [Row; 4],
+    lent: usize,
 }
 
 impl<G: Algebra + Drop, M: Memo + Drop> Desk<G, M> {
@@ -21,12 +23,14 @@ impl<G: Algebra + Drop, M: Memo + Drop> Desk<G, M> {
         memo: M,
         places: usize,
         inputs: u8,
+        lent: usize,
     ) -> anyhow::Result<Desk<G, M>> {
         let mut desk = Desk {
             table: Table::new(rt.alloc(), places)?,
             algebra,
             memo,
-            rows: vec![in rt.alloc(); Row::default(); usize::from(inputs) + 1]?,
+            rows: [Row::default(); 4],
+            lent,
         };
         desk.table
             .start(&mut desk.memo, inputs)
@@ -39,43 +43,36 @@ impl<G: Algebra + Drop, M: Memo + Drop> Desk<G, M> {
     }
 
     pub(crate) fn turn(&mut self, x: u32) -> Result<u32, Refused> {
-        Ok(
-            self.table
-                .turn(&self.algebra, &mut self.memo, &mut self.rows, x)?,
-        )
+        let rows = &mut self.rows[..];
+        let rows = &mut rows[..self.lent.min(4)];
+        Ok(self.table.turn(&self.algebra, &mut self.memo, rows, x)?)
     }
 
     pub(crate) fn join(&mut self, op: Op, x: u32, y: u32) -> Result<u32, Refused> {
+        let rows = &mut self.rows[..];
+        let rows = &mut rows[..self.lent.min(4)];
+        let op = u8::from(op);
         Ok(
-            self.table.join(
-                &self.algebra,
-                &mut self.memo,
-                &mut self.rows,
-                u8::from(op),
-                x,
-                y,
-            )?,
+            self.table
+                .join(&self.algebra, &mut self.memo, rows, op, x, y)?,
         )
     }
 
     pub(crate) fn check(&mut self, x: u32, y: u32) -> Result<Checked, Refused> {
-        Ok(check(
-            &mut self.table,
-            &self.algebra,
-            &mut self.memo,
-            &mut self.rows,
-            x,
-            y,
-        )?)
+        let rows = &mut self.rows[..];
+        let rows = &mut rows[..self.lent.min(4)];
+        Ok(check(&mut self.table, &self.algebra, &mut self.memo, rows, x, y)?)
     }
 
     // Lays a netlist, whose lines' handles go into a list.
     pub(crate) fn lay(&mut self, lines: &[Line], handles: &mut [u32]) -> Result<(), Refused> {
+        let rows = &mut self.rows[..];
+        let rows = &mut rows[..self.lent.min(4)];
         lay(
             &mut self.table,
             &self.algebra,
             &mut self.memo,
-            &mut self.rows,
+            rows,
             lines,
             handles,
         )?;
