@@ -22,8 +22,8 @@ fn join<G: Algebra>(algebra: &G, op: Op, line: Line, values: &[u8]) -> u8
     )
 }
 
-// The value of a line on a pattern, from those of the earlier lines. The operators stand in the match of the kinds: a match
-// of their own, behind it, costs `patterns` a fifth of its time.
+// The value of a line on a pattern, from those of the earlier lines. The operators stand in the match of the kinds: one arm
+// for all, with a match of its own behind it, made `patterns` a fifth slower in five values, and a sixth faster in two.
 fn line_value<G: Algebra>(
     algebra: &G,
     pattern: Pattern,
